@@ -1,46 +1,80 @@
 /* wasmprinter.h: prints WebAssembly modules, from the binary format to the text format. For C99 and C++.
  *
- * Link libwasmprinter.so, or libwasmprinter.a (tools/install.sh installs both, and `pkg-config wasmprinter` names the flags).
+ * Release 0.263.0-r1. Link libwasmprinter.so.1, or libwasmprinter.a (tools/install.sh installs both, and `pkg-config wasmprinter` names the
+ * flags). Both need a processor with the instructions of x86-64-v2, and Linux with glibc.
  *
- * Every length is a number of bytes. Every place is a byte offset from the start of the module. Texts are not null-terminated.
+ * Every length is a number of bytes, unless stated otherwise. No object that is passed has more than PTRDIFF_MAX bytes. Every place is a byte
+ * offset from the start of the module. Texts are not null-terminated, unless stated otherwise.
  *
  * Threads: no function keeps state between calls, and none takes a lock. Any number of threads may call any of them at the same
- * time, on buffers of their own. Threads may share the input of a call, `wasm`, `options` and `indent`, as long as no thread writes to it.
+ * time, on buffers of their own. Threads may share the input of a call, as long as no thread writes to it.
  * Do not call a function from a signal handler, or in the forked child of a process with threads.
  *
  * Memory: the caller owns every buffer, and no function keeps a pointer after it returns. The functions that print
- * allocate with `malloc` and free what they allocate before they return. They write the text to the caller's buffer
- * while they print. With `fold`, they first collect the text of a body's operators in memory that they allocate.
+ * allocate with `malloc`, and free what they allocate before they return, except the block of wasmprinter_print_alloc. They write the text to
+ * the caller's buffer while they print. When operators are folded, they first collect the text of a body's operators in memory that they
+ * allocate.
  *
- * Pointers: no pointer may be null, even if its length is 0, except for the functions whose name ends in `_nullable`. An object that a
- * function writes to must not overlap any other object that is passed to it. */
+ * Pointers: if the `ptr` of a module, a buffer or a table is null, it counts as empty, whatever its `len` is. `options`, the `ptr` of an indent,
+ * `result` and `resize` may be null too. No other pointer may be null, and no pointer that is passed to a function whose name starts with
+ * `wasmprinter_raw_`. An object that a function writes to must not overlap any other object that is passed to it, nor the block of
+ * wasmprinter_print_alloc. */
 #ifndef WASMPRINTER_H
 #define WASMPRINTER_H
 
-#include <stdbool.h>
 #include <stddef.h>
 #include <stdint.h>
+#include <stdlib.h>
 
 #ifdef __cplusplus
 extern "C" {
 #endif
 
-/* The version that this header describes, as wasmprinter_version() returns it: 0.263.0. */
-#define WASMPRINTER_VERSION 263000
+#ifdef __cplusplus
+#define WASMPRINTER_INLINE inline
+#else
+#define WASMPRINTER_INLINE static inline
+#endif
+#if defined(__GNUC__)
+#define WASMPRINTER_NONNULL __attribute__((nonnull))
+#define WASMPRINTER_NONNULL_TEXT __attribute__((nonnull(5)))
+#else
+#define WASMPRINTER_NONNULL
+#define WASMPRINTER_NONNULL_TEXT
+#endif
 
-/* The options of printing. The default is false for each. Each field must hold 0 or 1. */
+/* The release that this header describes, as wasmprinter_version() and wasmprinter_revision() return it: 0.263.0-r1. */
+#define WASMPRINTER_VERSION 263000
+#define WASMPRINTER_REVISION 1
+
+/* Input bytes, or a text in UTF-8 that is input. */
+typedef struct WasmprinterBytes {
+    const void *ptr;
+    size_t len;
+} WasmprinterBytes;
+
+/* A buffer for text. */
+typedef struct WasmprinterBuffer {
+    char *ptr;
+    size_t len;
+} WasmprinterBuffer;
+
+/* The options of printing, as bits of WasmprinterOptions.flags. */
+enum {
+    WASMPRINTER_OFFSETS = 1,      /* begin each line after the first with its place, or with spaces if it has none */
+    WASMPRINTER_SKELETON = 2,     /* leave out bodies, items of element segments, and bytes of data segments and custom sections */
+    WASMPRINTER_NAME_UNNAMED = 4, /* synthesize identifiers for items without a name */
+    WASMPRINTER_FOLD = 8          /* put each operator in parentheses with its operands */
+};
+
+/* The options of printing. Initialise every field: `WasmprinterOptions options = {0};` is the default in C, `= {}` in C++. */
 typedef struct WasmprinterOptions {
-    bool offsets;      /* begin each line after the first with its place */
-    bool skeleton;     /* leave out bodies, items of element segments, and bytes of data segments and custom sections */
-    bool name_unnamed; /* synthesize identifiers for items without a name */
-    bool fold;         /* put each operator in parentheses with its operands */
+    uint32_t flags;          /* the sum of WASMPRINTER_OFFSETS and the others */
+    WasmprinterBytes indent; /* the text of one level of nesting, in UTF-8; two spaces if `ptr` is null */
 } WasmprinterOptions;
 
-/* The default indent and its length: two spaces for each level of nesting. */
-#define WASMPRINTER_INDENT ((const uint8_t *)"  ")
-#define WASMPRINTER_INDENT_LEN ((size_t)2)
-
-/* The statuses that the printing functions return. Each error stores a detail, which is 0 unless stated otherwise. */
+/* The statuses. Each error stores a detail, which is 0 unless stated otherwise. */
+typedef uint32_t WasmprinterStatus;
 enum {
     WASMPRINTER_OK = 0,
     WASMPRINTER_MALFORMED = 1,          /* not in the binary format; detail: a place, see below */
@@ -48,13 +82,14 @@ enum {
     WASMPRINTER_TOO_MANY_LOCALS = 3,    /* more than 50,000 locals in a function; detail: the place of its body */
     WASMPRINTER_TOO_MANY_FUNCTIONS = 4, /* more than 1,000,000 functions; detail: their number */
     WASMPRINTER_EMPTY_TABLE_INIT = 5,   /* a table whose initialiser has no operators; detail: the place of the table */
-    WASMPRINTER_FOLD_LEGACY = 6,        /* only with `fold`: a legacy exception operator; detail: its place */
-    WASMPRINTER_FOLD_HINT = 7,          /* only with `fold`: a branch hint that has no position in folded text; detail: its place */
+    WASMPRINTER_FOLD_LEGACY = 6,        /* only with WASMPRINTER_FOLD: a legacy exception operator; detail: its place */
+    WASMPRINTER_FOLD_HINT = 7,          /* only with WASMPRINTER_FOLD: a branch hint that has no position in folded text; detail: its place */
     WASMPRINTER_DYLINK_SUBSECTION = 8,  /* an unknown subsection of `dylink.0`; detail: the id of the first */
     WASMPRINTER_UNREADABLE = 9,         /* never returned: no function reads a file */
     WASMPRINTER_TOO_LONG = 10,          /* the text has more than SIZE_MAX bytes */
     WASMPRINTER_MEMORY = 11,            /* an allocation failed */
-    WASMPRINTER_INVALID_INDENT = 12     /* the indent is not UTF-8 */
+    WASMPRINTER_INVALID_INDENT = 12,    /* the indent is not UTF-8 */
+    WASMPRINTER_UNKNOWN_OPTION = 13     /* the flags have bits that this library does not know; detail: these bits */
 };
 
 /* The place of WASMPRINTER_MALFORMED is that of the first unexpected byte, number or entry, or of bytes whose encoded length exceeds the bytes
@@ -65,97 +100,238 @@ enum {
  * - A name is not UTF-8: the first byte of its length.
  * - Two sections disagree about a count: the end of the module. */
 
-/* Prints the text of a module to `out`, as snprintf does: writes as many of the first bytes of the text as fit, and stores the length of
- * the whole text. The text is truncated if *length > out_len. A call with out_len 0 only measures.
- *
- * wasm, wasm_len      the bytes of the module; any bytes are allowed
- * options             the options of printing
- * indent, indent_len  the text of one level of nesting, in UTF-8
- * out, out_len        the buffer; its bytes after the text are unchanged
- * length              receives the length of the whole text, or 0 after an error
- * detail              receives the detail of an error, or 0
- *
- * Returns WASMPRINTER_OK or the number of an error. WASMPRINTER_COMPONENT takes precedence over all others. After
- * WASMPRINTER_DYLINK_SUBSECTION, WASMPRINTER_TOO_LONG and, with `fold`, WASMPRINTER_MEMORY, the buffer may hold a prefix of the text. After
- * any other error it is unchanged.
- *
- * With an indent of spaces and tabs the text consists of printable ASCII characters, tabs and line feeds. If also
- * `skeleton` is false, and every index that the module uses is declared and names an item of the right kind, the text
- * reads back as the module. */
-uint32_t wasmprinter_print(const uint8_t *wasm, size_t wasm_len, const WasmprinterOptions *options, const uint8_t *indent,
-                           size_t indent_len, uint8_t *out, size_t out_len, size_t *length, uint64_t *detail);
+/* What a call that prints stores. */
+typedef struct WasmprinterResult {
+    size_t length;   /* the length of the whole text, or 0 after an error */
+    size_t count;    /* the number of lines of the whole text, or 0 after an error; line feeds of the indent start no line */
+    uint64_t detail; /* the detail of an error, or 0 */
+} WasmprinterResult;
 
-/* A line of the text. */
+/* A line of the text. A line ends where the next one starts, or at the end of the text. Its last byte is a line feed. */
 typedef struct WasmprinterLine {
     size_t start;       /* the byte offset of the line from the start of the text */
     uint64_t place;     /* the place of the line in the module, or 0 if has_place is 0 */
     uint32_t has_place; /* 1 if the line has a place, 0 if it shows nothing of the module */
 } WasmprinterLine;
 
-/* Does the same as wasmprinter_print, and writes a table of the lines: as many of the first entries as fit. A line ends where the next one
- * starts, or at the end of the text. Its last byte is a line feed.
- *
- * lines, lines_len  the table and its capacity in entries; the entries after the last line are unchanged
- * count             receives the number of lines, or 0 after an error
- *
- * After an error the entries of the table are not specified. */
-uint32_t wasmprinter_print_lines(const uint8_t *wasm, size_t wasm_len, const WasmprinterOptions *options, const uint8_t *indent,
-                                 size_t indent_len, uint8_t *out, size_t out_len, WasmprinterLine *lines, size_t lines_len,
-                                 size_t *length, size_t *count, uint64_t *detail);
+/* A table for the lines of a text. */
+typedef struct WasmprinterTable {
+    WasmprinterLine *ptr;
+    size_t len; /* the capacity in lines */
+} WasmprinterTable;
 
-/* The description of a status has at most this length. */
-#define WASMPRINTER_ERROR_TEXT_LEN ((size_t)200)
+/* ---- The exported functions. The functions below call them, and are easier to call. */
 
-/* Writes the description of a status with its detail to `out`, in English and ASCII, such as `malformed module at byte 0x1f`. Writes as
- * many of its first bytes as fit, and returns the length of the whole description. The description of a status greater
- * than 12 is `unknown status`. Allocates nothing. */
-size_t wasmprinter_error_text(uint32_t status, uint64_t detail, uint8_t *out, size_t out_len);
+/* Prints a module, as wasmprinter_print_lines does. `flags` are the options. No pointer may be null, even if its length is 0. */
+WASMPRINTER_NONNULL WasmprinterStatus wasmprinter_raw_print(const uint8_t *wasm, size_t wasm_len, uint32_t flags, const uint8_t *indent,
+                                                            size_t indent_len, uint8_t *out, size_t out_len, WasmprinterLine *lines,
+                                                            size_t lines_len, WasmprinterResult *result);
+
+/* Writes the description of a status with its detail to `out`: as many of its first bytes as fit. Returns the length of the whole
+ * description. `out` may not be null. Allocates nothing. */
+WASMPRINTER_NONNULL size_t wasmprinter_raw_error_text(WasmprinterStatus status, uint64_t detail, uint8_t *out, size_t out_len);
 
 /* Returns the version of the library: the major number times 1,000,000, plus the minor number times 1,000, plus the patch number.
  * Allocates nothing. */
 uint32_t wasmprinter_version(void);
 
-/* ---- The same functions for pointers that may be null.
+/* Returns the number N of the release 0.263.0-rN. Allocates nothing. */
+uint32_t wasmprinter_revision(void);
+
+/* ---- Printing */
+
+/* Returns input of this length. */
+WASMPRINTER_INLINE WasmprinterBytes wasmprinter_bytes(const void *ptr, size_t len) {
+    WasmprinterBytes bytes;
+    bytes.ptr = ptr;
+    bytes.len = len;
+    return bytes;
+}
+
+/* Returns a buffer of this length. */
+WASMPRINTER_INLINE WasmprinterBuffer wasmprinter_buffer(char *ptr, size_t len) {
+    WasmprinterBuffer buffer;
+    buffer.ptr = ptr;
+    buffer.len = len;
+    return buffer;
+}
+
+/* Prints the text of a module to `out`, as snprintf does: writes as many of the first bytes of the text as fit, and stores the length of
+ * the whole text. The text is truncated if result->length > out.len. A call with an empty `out` only measures, and nothing is written if
+ * out.ptr is null, even if result->length <= out.len. Writes a table of the lines to `lines`: as many of the first lines as fit, none if
+ * lines.ptr is null. What follows the text in `out` and the last line in `lines` is unchanged.
  *
- * `wasm`, `indent`, `out` and `lines` may be null, such as `data()` of an empty vector in C++ or the result of a failed `malloc`. The length
- * of a null pointer counts as 0, whatever is passed. So nothing is written if `out` is null, even if *length <= out_len, and a null `indent`
- * is an empty indent, not the default. `options` may be null for the default. `length`, `count` and `detail` may be null if their value is
- * not needed. */
-
-static inline uint32_t wasmprinter_print_nullable(const uint8_t *wasm, size_t wasm_len, const WasmprinterOptions *options,
-                                                  const uint8_t *indent, size_t indent_len, uint8_t *out, size_t out_len,
-                                                  size_t *length, uint64_t *detail) {
-    const WasmprinterOptions no_options = {false, false, false, false};
-    const uint8_t no_input = 0;
-    uint8_t no_text = 0;
-    size_t own_length = 0;
-    uint64_t own_detail = 0;
-    return wasmprinter_print(wasm != NULL ? wasm : &no_input, wasm != NULL ? wasm_len : 0, options != NULL ? options : &no_options,
-                             indent != NULL ? indent : &no_input, indent != NULL ? indent_len : 0, out != NULL ? out : &no_text,
-                             out != NULL ? out_len : 0, length != NULL ? length : &own_length, detail != NULL ? detail : &own_detail);
+ * wasm     the bytes of the module; any bytes are allowed
+ * options  the options of printing, or null for the default
+ * result   receives the lengths and the detail; may be null
+ *
+ * Returns WASMPRINTER_OK or the number of an error. If several errors apply, WASMPRINTER_UNKNOWN_OPTION is returned first, then
+ * WASMPRINTER_COMPONENT, then WASMPRINTER_INVALID_INDENT, then any other. After WASMPRINTER_DYLINK_SUBSECTION, WASMPRINTER_TOO_LONG and,
+ * with WASMPRINTER_FOLD, WASMPRINTER_MEMORY, `out` may hold a prefix of the text. After any other error it is unchanged. After an error
+ * the entries of `lines` are not specified.
+ *
+ * With an indent of spaces and tabs the text consists of printable ASCII characters, tabs and line feeds. If also
+ * WASMPRINTER_SKELETON is not chosen, and every index that the module uses is declared and names an item of the right kind, the text
+ * reads back as the module. */
+WASMPRINTER_INLINE WasmprinterStatus wasmprinter_print_lines(WasmprinterBytes wasm, const WasmprinterOptions *options, WasmprinterBuffer out,
+                                                        WasmprinterTable lines, WasmprinterResult *result) {
+    static const uint8_t default_indent[2] = {' ', ' '};
+    uint8_t no_bytes[1] = {0};
+    WasmprinterLine no_lines[1] = {{0, 0, 0}};
+    WasmprinterResult own_result = {0, 0, 0};
+    const void *bytes = wasm.ptr;
+    const void *indent = default_indent;
+    void *text = out.ptr;
+    size_t indent_len = sizeof default_indent;
+    size_t bytes_len = wasm.len;
+    uint32_t flags = 0;
+    if (options != NULL) {
+        flags = options->flags;
+        if (options->indent.ptr != NULL) {
+            indent = options->indent.ptr;
+            indent_len = options->indent.len;
+        }
+    }
+    if (bytes == NULL) {
+        bytes = no_bytes;
+        bytes_len = 0;
+    }
+    if (text == NULL) {
+        text = no_bytes;
+        out.len = 0;
+    }
+    if (lines.ptr == NULL) {
+        lines.ptr = no_lines;
+        lines.len = 0;
+    }
+#ifdef __cplusplus
+    return wasmprinter_raw_print(static_cast<const uint8_t *>(bytes), bytes_len, flags, static_cast<const uint8_t *>(indent), indent_len,
+                                 static_cast<uint8_t *>(text), out.len, lines.ptr, lines.len, result != NULL ? result : &own_result);
+#else
+    return wasmprinter_raw_print(bytes, bytes_len, flags, indent, indent_len, text, out.len, lines.ptr, lines.len,
+                                 result != NULL ? result : &own_result);
+#endif
 }
 
-static inline uint32_t wasmprinter_print_lines_nullable(const uint8_t *wasm, size_t wasm_len, const WasmprinterOptions *options,
-                                                        const uint8_t *indent, size_t indent_len, uint8_t *out, size_t out_len,
-                                                        WasmprinterLine *lines, size_t lines_len, size_t *length, size_t *count,
-                                                        uint64_t *detail) {
-    const WasmprinterOptions no_options = {false, false, false, false};
-    const uint8_t no_input = 0;
-    uint8_t no_text = 0;
-    WasmprinterLine no_line = {0, 0, 0};
-    size_t own_length = 0;
-    size_t own_count = 0;
-    uint64_t own_detail = 0;
-    return wasmprinter_print_lines(wasm != NULL ? wasm : &no_input, wasm != NULL ? wasm_len : 0, options != NULL ? options : &no_options,
-                                   indent != NULL ? indent : &no_input, indent != NULL ? indent_len : 0, out != NULL ? out : &no_text,
-                                   out != NULL ? out_len : 0, lines != NULL ? lines : &no_line, lines != NULL ? lines_len : 0,
-                                   length != NULL ? length : &own_length, count != NULL ? count : &own_count,
-                                   detail != NULL ? detail : &own_detail);
+/* Does the same as wasmprinter_print_lines, without a table of the lines. */
+WASMPRINTER_INLINE WasmprinterStatus wasmprinter_print(WasmprinterBytes wasm, const WasmprinterOptions *options, WasmprinterBuffer out,
+                                                  WasmprinterResult *result) {
+    WasmprinterTable no_lines;
+    no_lines.ptr = NULL;
+    no_lines.len = 0;
+    return wasmprinter_print_lines(wasm, options, out, no_lines, result);
 }
 
-static inline size_t wasmprinter_error_text_nullable(uint32_t status, uint64_t detail, uint8_t *out, size_t out_len) {
-    uint8_t no_text = 0;
-    return wasmprinter_error_text(status, detail, out != NULL ? out : &no_text, out != NULL ? out_len : 0);
+/* Changes the length of a block, as realloc does: `block` may be null, and null is returned if memory is missing. `len` is not 0. */
+typedef void *(*WasmprinterResize)(void *context, void *block, size_t len);
+
+/* Prints the text of a module to memory from `resize`, and stores it in `text`. The text ends with a zero byte, which text->len does not
+ * count. With the default options nearly every module is printed once. It is printed again if its text is longer than expected.
+ *
+ * `resize` is called with `context`. If `resize` is null, realloc is used, and the caller frees text->ptr with free.
+ *
+ * text->ptr must be null, or a block of an earlier call with the same `resize` and `context`, which is used again. After an error text->ptr holds
+ * the block, if there is one, as an empty string, and text->len is 0. So the caller frees text->ptr in any case. The block is not shortened to
+ * the text. */
+WASMPRINTER_NONNULL_TEXT
+WASMPRINTER_INLINE WasmprinterStatus wasmprinter_print_alloc(WasmprinterBytes wasm, const WasmprinterOptions *options, WasmprinterResize resize,
+                                                        void *context, WasmprinterBuffer *text, WasmprinterResult *result) {
+    /* Most texts have less than 12 bytes for each byte of the module. Pages of a block that are not written to take no memory. */
+    const size_t expected = 12, least = 4096;
+    WasmprinterResult own_result = {0, 0, 0};
+    size_t room = wasm.ptr != NULL && wasm.len < SIZE_MAX / (2 * expected) ? wasm.len * expected + least : least;
+    int is_measured = 0;
+    if (result == NULL) {
+        result = &own_result;
+    }
+    text->len = 0;
+    for (;;) {
+        WasmprinterStatus status;
+        void *block = NULL;
+        if (room < SIZE_MAX) {
+            block = resize != NULL ? resize(context, text->ptr, room + 1) : realloc(text->ptr, room + 1);
+        }
+        if (block == NULL && is_measured) {
+            if (text->ptr != NULL) {
+                text->ptr[0] = '\0';
+            }
+            result->length = 0;
+            result->count = 0;
+            result->detail = 0;
+            return WASMPRINTER_MEMORY;
+        }
+        if (block != NULL) {
+#ifdef __cplusplus
+            text->ptr = static_cast<char *>(block);
+#else
+            text->ptr = block;
+#endif
+        }
+        /* Without a block this only measures. */
+        status = wasmprinter_print(wasm, options, wasmprinter_buffer(text->ptr, block != NULL ? room : 0), result);
+        if (status != WASMPRINTER_OK) {
+            if (text->ptr != NULL) {
+                text->ptr[0] = '\0';
+            }
+            return status;
+        }
+        if (block != NULL && result->length <= room) {
+            text->len = result->length;
+            text->ptr[text->len] = '\0';
+            return WASMPRINTER_OK;
+        }
+        room = result->length;
+        is_measured = 1;
+    }
+}
+
+/* ---- Errors */
+
+/* The description of a status has at most this length, without the zero byte at its end. */
+#define WASMPRINTER_ERROR_TEXT_LEN 200
+
+/* Writes the description of a status with its detail to `out`, in English and ASCII, such as `malformed module at byte 0x1f`. As snprintf
+ * does, it writes at most out.len - 1 of its first bytes and a zero byte, nothing if `out` is empty, and returns the length of the whole
+ * description. The description of a status greater than 13 is `unknown status`. Allocates nothing. */
+WASMPRINTER_INLINE size_t wasmprinter_error_text(WasmprinterStatus status, uint64_t detail, WasmprinterBuffer out) {
+    uint8_t no_text[1] = {0};
+    void *text = out.ptr;
+    size_t room = 0, length;
+    if (text == NULL || out.len == 0) {
+        text = no_text;
+    } else {
+        room = out.len - 1;
+    }
+#ifdef __cplusplus
+    length = wasmprinter_raw_error_text(status, detail, static_cast<uint8_t *>(text), room);
+#else
+    length = wasmprinter_raw_error_text(status, detail, text, room);
+#endif
+    if (text != no_text) {
+        out.ptr[length < room ? length : room] = '\0';
+    }
+    return length;
+}
+
+/* Returns a name for the status, null-terminated, such as `malformed module`. */
+WASMPRINTER_INLINE const char *wasmprinter_status_name(WasmprinterStatus status) {
+    switch (status) {
+    case WASMPRINTER_OK: return "success";
+    case WASMPRINTER_MALFORMED: return "malformed module";
+    case WASMPRINTER_COMPONENT: return "component";
+    case WASMPRINTER_TOO_MANY_LOCALS: return "too many locals";
+    case WASMPRINTER_TOO_MANY_FUNCTIONS: return "too many functions";
+    case WASMPRINTER_EMPTY_TABLE_INIT: return "empty initialiser of a table";
+    case WASMPRINTER_FOLD_LEGACY: return "legacy exception operator can't be folded";
+    case WASMPRINTER_FOLD_HINT: return "branch hint can't be folded";
+    case WASMPRINTER_DYLINK_SUBSECTION: return "unknown dylink.0 subsection";
+    case WASMPRINTER_UNREADABLE: return "unreadable file";
+    case WASMPRINTER_TOO_LONG: return "text too long";
+    case WASMPRINTER_MEMORY: return "out of memory";
+    case WASMPRINTER_INVALID_INDENT: return "indent is not UTF-8";
+    case WASMPRINTER_UNKNOWN_OPTION: return "unknown options";
+    default: return "unknown status";
+    }
 }
 
 #ifdef __cplusplus

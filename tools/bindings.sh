@@ -1,6 +1,8 @@
 #!/bin/sh
 # Tests the bindings in bindings/: builds the library, and checks in C, C++, Rust and Python that every case of bindings/cases.txt prints as
-# typed. It also checks the wrappers of the header without the library (nullable.c), and lets allocations fail (memory.c). Uses the machine's `cc`, `c++`, `cargo --offline` and `python3`. Fails if one of them is missing or if a case differs.
+# typed. In C and C++ it also checks the inline functions of the header without the library (wrappers.c), lets allocations fail (memory.c), prints
+# between guard pages (guard.c) and in many threads (threads.c). Uses the machine's `cc`, `c++`, `cargo --offline` and `python3`. Fails if one of
+# them is missing or if a case differs.
 set -eu
 cd "$(dirname "$0")/.."
 for tool in cc c++ cargo python3; do
@@ -13,31 +15,48 @@ work=$(mktemp -d)
 trap 'rm -rf "$work"' EXIT
 sh tools/library.sh "$work" >"$work/log" 2>&1 || { cat "$work/log"; exit 1; }
 
-set -- -O2 -Wall -Wextra -Wpedantic -Werror -Iinclude
-cc -std=c99 "$@" bindings/c/test.c "$work/libwasmprinter.a" -o "$work/test_c"
-c++ -std=c++17 "$@" -x c++ bindings/c/test.c -x none "$work/libwasmprinter.a" -o "$work/test_cpp"
-"$work/test_c" bindings/cases.txt
-"$work/test_cpp" bindings/cases.txt
-cc -std=c99 "$@" bindings/c/nullable.c -o "$work/nullable_c"
-c++ -std=c++17 "$@" -x c++ bindings/c/nullable.c -o "$work/nullable_cpp"
-"$work/nullable_c"
-"$work/nullable_cpp"
-cc -std=c99 "$@" -Wl,--wrap=malloc,--wrap=realloc bindings/c/memory.c "$work/libwasmprinter.a" -o "$work/memory"
-"$work/memory"
-cc -std=c99 "$@" -c bindings/c/fuzz.c -o "$work/fuzz.o"
-cc -std=c99 "$@" bindings/c/example.c "$work/libwasmprinter.a" -o "$work/example_c"
-c++ -std=c++17 "$@" bindings/cpp/example.cpp -L"$work" -lwasmprinter -Wl,-rpath,"$work" -o "$work/example_cpp"
+flags='-O2 -Wall -Wextra -Wpedantic -Werror -Iinclude'
+counted=-Wl,--wrap=malloc,--wrap=realloc,--wrap=free
+library=$work/libwasmprinter.a
 
-# case_of STATUS OUTPUT FILE: runs an example on a file of the work folder, with its standard output redirected to OUTPUT. Checks that it ends
+# tested TEST WORD..: compiles bindings/c/TEST.c in C and in C++, with these flags and files, and runs both programs. Only `test` reads the cases.
+tested() {
+    test=$1
+    shift
+    cc -std=c99 $flags "bindings/c/$test.c" "$@" -o "$work/${test}_c"
+    c++ -std=c++17 $flags -x c++ "bindings/c/$test.c" -x none "$@" -o "$work/${test}_cpp"
+    "$work/${test}_c" bindings/cases.txt
+    "$work/${test}_cpp" bindings/cases.txt
+}
+
+tested test "$library"
+tested wrappers
+tested memory "$counted" "$library"
+tested guard "$library"
+tested threads -pthread "$library"
+for standard in 17 20; do
+    c++ -std=c++$standard $flags -Ibindings/cpp bindings/cpp/test.cpp "$counted" "$library" -o "$work/test_hpp"
+    "$work/test_hpp" bindings/cases.txt
+done
+cc -std=c99 $flags -c bindings/c/fuzz.c -o "$work/fuzz.o"
+cc -std=c99 $flags bindings/c/example.c "$library" -o "$work/example_c"
+c++ -std=c++17 $flags -x c++ -c bindings/c/fuzz.c -o "$work/fuzz.o"
+c++ -std=c++17 $flags -x c++ -c bindings/c/example.c -o "$work/example.o"
+c++ -std=c++17 $flags bindings/cpp/example.cpp -L"$work" -lwasmprinter -Wl,-rpath,"$work" -o "$work/example_cpp"
+
+# case_of STATUS OUTPUT ARGUMENT..: runs an example with these arguments, and with its standard output redirected to OUTPUT. Checks that it ends
 # with the status, that OUTPUT equals the file `out` (unless OUTPUT is /dev/full), and that its standard error equals the file `err`.
 case_of() {
+    expected=$1
+    output=$2
+    shift 2
     status=0
-    "$work/$example" "$work/$3" >"$2" 2>"$work/reported" || status=$?
-    if [ "$status" != "$1" ]; then
-        echo "bindings: $example $3 ended with status $status, not $1" >&2
+    "$work/$example" "$@" >"$output" 2>"$work/reported" || status=$?
+    if [ "$status" != "$expected" ]; then
+        echo "bindings: $example $* ended with status $status, not $expected" >&2
         exit 1
     fi
-    if [ "$2" != /dev/full ]; then cmp "$work/out" "$2"; fi
+    if [ "$output" != /dev/full ]; then cmp "$work/out" "$output"; fi
     cmp "$work/err" "$work/reported"
 }
 
@@ -46,19 +65,24 @@ printf '\000asm\015\000\001\000' >"$work/component.wasm"
 for example in example_c example_cpp; do
     echo '(module)' >"$work/out"
     : >"$work/err"
-    case_of 0 "$work/written" empty.wasm
+    case_of 0 "$work/written" "$work/empty.wasm"
     echo "example: the text can't be written" >"$work/err"
-    case_of 1 /dev/full empty.wasm
+    case_of 1 /dev/full "$work/empty.wasm"
     : >"$work/out"
-    echo 'example: name one file that can be read' >"$work/err"
-    case_of 1 "$work/written" missing.wasm
+    echo "example: the file can't be read" >"$work/err"
+    case_of 1 "$work/written" "$work/missing.wasm"
     echo 'example: components are not supported' >"$work/err"
-    case_of 1 "$work/written" component.wasm
+    case_of 1 "$work/written" "$work/component.wasm"
+    echo 'usage: example FILE' >"$work/err"
+    case_of 2 "$work/written"
+    case_of 2 "$work/written" "$work/empty.wasm" "$work/empty.wasm"
 done
 echo 'c, c++: both examples print and report as typed'
 
-WASMPRINTER_LIB=$work cargo test --offline --quiet --manifest-path bindings/rust/Cargo.toml --target-dir "$work/rust" >"$work/log" 2>&1 ||
-    { cat "$work/log"; exit 1; }
+set -- --offline --quiet --workspace --manifest-path bindings/rust/Cargo.toml --target-dir "$work/rust"
+WASMPRINTER_LIB=$work cargo test "$@" >"$work/log" 2>&1 || { cat "$work/log"; exit 1; }
 echo "rust: $(grep -c '^test result: ok' "$work/log") groups of tests passed"
+# the documentation is made without the library
+DOCS_RS=1 RUSTDOCFLAGS='-D warnings' cargo doc --no-deps "$@" >"$work/log" 2>&1 || { cat "$work/log"; exit 1; }
 (cd bindings/python && WASMPRINTER_SO=$work/libwasmprinter.so python3 -B -m unittest --quiet test_wasmprinter)
 echo 'python: all tests passed'

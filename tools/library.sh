@@ -1,11 +1,11 @@
 #!/bin/sh
-# Builds the library for C: libwasmprinter.a and libwasmprinter.so, with everything that they need except the C library. The machine's `cc`
-# and `ar` make both files from the archive that `rt lib` makes when it has proved the crate `wasmprinter_c`.
+# Builds the library for C: libwasmprinter.a, libwasmprinter.so.1 and a symbolic link libwasmprinter.so, with everything that they need except the C
+# library. tools/link.sh makes them from the archive that `rt lib` makes when it has proved the crate `wasmprinter_c`.
 #
 # `rt lib` proves the library and the crates below it, in half an hour. So the archive is kept in ~/.cache/wasmprinter (or in XDG_CACHE_HOME),
 # under a checksum of the kit's version and of all files of these crates. It is made anew only if one of them has changed.
 #
-# tools/library.sh FOLDER: writes both files to the folder.
+# tools/library.sh FOLDER: writes these to the folder.
 set -eu
 folder=$1
 root=$(cd "$(dirname "$0")/.." && pwd)
@@ -43,13 +43,4 @@ if [ ! -e "$printer" ]; then
     cp "$root/crates/wasmprinter_c/out/libwasmprinter_c.a" "$printer.$$"
     mv "$printer.$$" "$printer"
 fi
-mkdir -p "$folder"
-# one archive: the printer, and the functions of the toolchain that call malloc and free
-cp "$printer" "$work/printer.a"
-cp "$(dirname "$(rt doc)")/c/liblibc_c.a" "$work/heap.a"
-(cd "$work" && printf 'create libwasmprinter.a\naddlib printer.a\naddlib heap.a\nsave\nend\n' | ar -M)
-cp "$work/libwasmprinter.a" "$folder/libwasmprinter.a"
-# the functions of the header are exported, and nothing else
-echo '{ global: wasmprinter_*; local: *; };' >"$work/exports"
-cc -shared -o "$folder/libwasmprinter.so" -Wl,-soname,libwasmprinter.so -Wl,--version-script="$work/exports" -Wl,-z,defs -Wl,-z,now \
-    -Wl,--gc-sections -Wl,--whole-archive "$work/libwasmprinter.a" -Wl,--no-whole-archive
+sh "$root/tools/link.sh" "$printer" "$(dirname "$(rt doc)")/c/liblibc_c.a" "$folder"

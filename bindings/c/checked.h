@@ -1,45 +1,63 @@
-/* checked.h: calls the printing functions on guarded buffers, for test.c and fuzz.c. */
+/* checked.h: calls the printing functions on guarded buffers, for the tests. */
 #ifndef CHECKED_H
 #define CHECKED_H
 
 #include "wasmprinter.h"
 
+#include <stdbool.h>
 #include <string.h>
 
 /* Buffers are filled with this byte before a call. */
 enum { GUARD = 0xa5 };
 
+/* The flags with every known option. Each number up to it is a set of known options. */
+enum { ALL_OPTIONS = WASMPRINTER_OFFSETS | WASMPRINTER_SKELETON | WASMPRINTER_NAME_UNNAMED | WASMPRINTER_FOLD };
+
 /* The input of the printing functions. */
 typedef struct Input {
-    const uint8_t *wasm;
-    size_t wasm_len;
+    WasmprinterBytes wasm;
     WasmprinterOptions options;
-    const uint8_t *indent;
-    size_t indent_len;
 } Input;
 
 /* The values that the printing functions return and store. */
 typedef struct Outcome {
-    uint32_t status;
-    uint64_t detail;
-    size_t length;
-    size_t count;
+    WasmprinterStatus status;
+    WasmprinterResult stored;
 } Outcome;
 
-/* Prints the text. The count of lines is 0. */
-static inline Outcome print_text(const Input *input, uint8_t *out, size_t out_len) {
-    Outcome outcome = {GUARD, GUARD, GUARD, 0};
-    outcome.status = wasmprinter_print_nullable(input->wasm, input->wasm_len, &input->options, input->indent, input->indent_len, out,
-                                                out_len, &outcome.length, &outcome.detail);
+/* Returns an outcome that no function returns. */
+static inline Outcome no_outcome(void) {
+    Outcome outcome = {GUARD, {GUARD, GUARD, GUARD}};
+    return outcome;
+}
+
+/* Prints the text. */
+static inline Outcome print_text(const Input *input, void *out, size_t out_len) {
+    Outcome outcome = no_outcome();
+    outcome.status = wasmprinter_print(input->wasm, &input->options, wasmprinter_buffer((char *)out, out_len), &outcome.stored);
     return outcome;
 }
 
 /* Prints the text and the table of its lines. */
-static inline Outcome print_lines(const Input *input, uint8_t *out, size_t out_len, WasmprinterLine *lines, size_t lines_len) {
-    Outcome outcome = {GUARD, GUARD, GUARD, GUARD};
-    outcome.status = wasmprinter_print_lines_nullable(input->wasm, input->wasm_len, &input->options, input->indent, input->indent_len, out,
-                                                      out_len, lines, lines_len, &outcome.length, &outcome.count, &outcome.detail);
+static inline Outcome print_lines(const Input *input, void *out, size_t out_len, WasmprinterLine *lines, size_t lines_len) {
+    Outcome outcome = no_outcome();
+    WasmprinterTable table = {lines, lines_len};
+    outcome.status =
+        wasmprinter_print_lines(input->wasm, &input->options, wasmprinter_buffer((char *)out, out_len), table, &outcome.stored);
     return outcome;
+}
+
+/* Prints the text to memory from `realloc`. */
+static inline Outcome print_alloc(const Input *input, WasmprinterBuffer *text) {
+    Outcome outcome = no_outcome();
+    outcome.status = wasmprinter_print_alloc(input->wasm, &input->options, NULL, NULL, text, &outcome.stored);
+    return outcome;
+}
+
+/* Returns whether two calls returned and stored the same. */
+static inline bool is_same(Outcome a, Outcome b) {
+    return a.status == b.status && a.stored.length == b.stored.length && a.stored.count == b.stored.count &&
+           a.stored.detail == b.stored.detail;
 }
 
 /* Returns whether a call left the bytes from `start` to `end` unchanged. */
@@ -54,7 +72,7 @@ static inline bool is_unchanged(const void *buffer, size_t start, size_t end) {
 }
 
 /* Returns whether the first `room` bytes of a buffer hold as much of a text as fits, and the other bytes are unchanged. */
-static inline bool is_over(const uint8_t *buffer, size_t len, size_t room, const void *text, size_t length) {
+static inline bool is_over(const void *buffer, size_t len, size_t room, const void *text, size_t length) {
     size_t fits = length < room ? length : room;
     return memcmp(buffer, text, fits) == 0 && is_unchanged(buffer, fits, len);
 }

@@ -1,5 +1,5 @@
-/* A target for libFuzzer: prints any bytes with any options, whole, truncated and with lines, and checks that the results are as the header
- * says. The first byte of the input chooses the options, and the second one the indent.
+/* A target for libFuzzer: prints any bytes with any options, whole, truncated, with lines and to allocated memory, and checks that the
+ * results are as the header says. The first byte of the input chooses the options and an unknown option, and the second one the indent.
  *
  * clang -fsanitize=fuzzer,address,undefined -Iinclude bindings/c/fuzz.c libwasmprinter.a */
 #include "checked.h"
@@ -12,10 +12,11 @@ enum { CHOICES = 2 };
 /* Longer texts are only measured. */
 static const size_t MOST_TEXT = (size_t)1 << 24;
 
+/* The last one is not UTF-8. */
 static const struct {
     const char *text;
     size_t len;
-} INDENTS[] = {{"  ", 2}, {"", 0}, {"\t", 1}, {"\xc3\xa9", 2}, {"\0", 1}, {"\xff", 1}};
+} INDENTS[] = {{NULL, 0}, {"", 0}, {"\t", 1}, {"\xc3\xa9", 2}, {"\0", 1}, {"\xff", 1}};
 
 static void require(bool holds) {
     if (!holds) {
@@ -31,60 +32,97 @@ static void *guarded(size_t len) {
     return buffer;
 }
 
-/* Checks the results and the description of an error. */
-static void check_error(const Input *input, Outcome outcome) {
-    require(outcome.status <= WASMPRINTER_INVALID_INDENT && outcome.status != WASMPRINTER_UNREADABLE && outcome.length == 0);
-    uint8_t *text = (uint8_t *)guarded(WASMPRINTER_ERROR_TEXT_LEN);
-    size_t length = wasmprinter_error_text(outcome.status, outcome.detail, text, WASMPRINTER_ERROR_TEXT_LEN);
-    require(length <= WASMPRINTER_ERROR_TEXT_LEN && is_unchanged(text, length, WASMPRINTER_ERROR_TEXT_LEN));
+/* Checks the description of an error. */
+static void check_error_text(Outcome outcome) {
+    const size_t room = WASMPRINTER_ERROR_TEXT_LEN + 1;
+    char *text = (char *)guarded(room);
+    size_t length = wasmprinter_error_text(outcome.status, outcome.stored.detail, wasmprinter_buffer(text, room));
+    require(length < room && strlen(text) == length && is_unchanged(text, length + 1, room));
     free(text);
-    Outcome again = print_lines(input, NULL, 0, NULL, 0);
-    require(again.status == outcome.status && again.detail == outcome.detail && again.length == 0 && again.count == 0);
+}
+
+/* Checks the results of an error. */
+static void check_error(const Input *input, Outcome outcome) {
+    require(outcome.status <= WASMPRINTER_INVALID_INDENT && outcome.status != WASMPRINTER_UNREADABLE);
+    require(outcome.stored.length == 0 && outcome.stored.count == 0);
+    check_error_text(outcome);
+    require(is_same(print_lines(input, NULL, 0, NULL, 0), outcome));
+    WasmprinterBuffer text = {NULL, 0};
+    require(is_same(print_alloc(input, &text), outcome) && text.len == 0);
+    free(text.ptr);
 }
 
 /* Prints half of a text, and checks that the bytes after it are unchanged. */
-static void check_half(const Input *input, const uint8_t *text, size_t length) {
+static void check_half(const Input *input, const uint8_t *text, Outcome whole) {
+    const size_t length = whole.stored.length;
     uint8_t *half = (uint8_t *)guarded(length);
-    Outcome outcome = print_text(input, half, length / 2);
-    require(outcome.status == WASMPRINTER_OK && outcome.length == length && is_over(half, length, length / 2, text, length));
+    require(is_same(print_text(input, half, length / 2), whole) && is_over(half, length, length / 2, text, length));
     free(half);
 }
 
+/* Prints to allocated memory. */
+static void check_alloc(const Input *input, const uint8_t *text, Outcome whole) {
+    WasmprinterBuffer again = {NULL, 0};
+    require(is_same(print_alloc(input, &again), whole) && again.len == whole.stored.length);
+    require(memcmp(again.ptr, text, again.len) == 0 && again.ptr[again.len] == '\0');
+    free(again.ptr);
+}
+
 /* Prints with a table of the lines, and checks its entries. */
-static void check_lines(const Input *input, const uint8_t *text, size_t length) {
-    size_t count = print_lines(input, NULL, 0, NULL, 0).count;
+static void check_lines(const Input *input, const uint8_t *text, Outcome whole) {
+    const size_t length = whole.stored.length, count = whole.stored.count;
     uint8_t *again = (uint8_t *)guarded(length);
     WasmprinterLine *lines = (WasmprinterLine *)guarded(count * sizeof *lines);
-    Outcome outcome = print_lines(input, again, length, lines, count);
-    require(outcome.status == WASMPRINTER_OK && outcome.length == length && outcome.count == count && memcmp(again, text, length) == 0);
+    require(is_same(print_lines(input, again, length, lines, count), whole) && memcmp(again, text, length) == 0);
     for (size_t i = 0; i < count; i++) {
         require(i == 0 ? lines[i].start == 0 : lines[i].start > lines[i - 1].start && text[lines[i].start - 1] == '\n');
-        require(lines[i].has_place <= 1 && lines[i].place <= (lines[i].has_place ? input->wasm_len : 0));
+        require(lines[i].has_place <= 1 && lines[i].place <= (lines[i].has_place ? input->wasm.len : 0));
     }
     free(lines);
     free(again);
 }
+
+/* Checks that an unknown option is reported for any input. */
+static void check_unknown(Input input, uint32_t option) {
+    const Outcome unknown = {WASMPRINTER_UNKNOWN_OPTION, {0, 0, option}};
+    input.options.flags |= option;
+    require(is_same(print_text(&input, NULL, 0), unknown));
+}
+
+/* Prints a text of this length. */
+static void check_text(const Input *input, Outcome measured) {
+    const size_t length = measured.stored.length;
+    uint8_t *text = (uint8_t *)guarded(length);
+    require(is_same(print_text(input, text, length), measured) && text[length - 1] == '\n');
+    check_half(input, text, measured);
+    check_alloc(input, text, measured);
+    check_lines(input, text, measured);
+    free(text);
+}
+
+#ifdef __cplusplus
+extern "C" {
+#endif
+
+int LLVMFuzzerTestOneInput(const uint8_t *data, size_t size);
+
+#ifdef __cplusplus
+}
+#endif
 
 int LLVMFuzzerTestOneInput(const uint8_t *data, size_t size) {
     if (size < CHOICES) {
         return 0;
     }
     const size_t indent = data[1] % (sizeof INDENTS / sizeof INDENTS[0]);
-    const Input input = {data + CHOICES,
-                         size - CHOICES,
-                         {(data[0] & 1) != 0, (data[0] & 2) != 0, (data[0] & 4) != 0, (data[0] & 8) != 0},
-                         (const uint8_t *)INDENTS[indent].text,
-                         INDENTS[indent].len};
+    const uint32_t known = data[0] & ALL_OPTIONS;
+    const Input input = {{data + CHOICES, size - CHOICES}, {known, {INDENTS[indent].text, INDENTS[indent].len}}};
+    check_unknown(input, (ALL_OPTIONS + 1u) << data[0] / (ALL_OPTIONS + 1));
     Outcome measured = print_text(&input, NULL, 0);
     if (measured.status != WASMPRINTER_OK) {
         check_error(&input, measured);
-    } else if (measured.length <= MOST_TEXT) {
-        uint8_t *text = (uint8_t *)guarded(measured.length);
-        Outcome outcome = print_text(&input, text, measured.length);
-        require(outcome.status == WASMPRINTER_OK && outcome.length == measured.length && text[outcome.length - 1] == '\n');
-        check_half(&input, text, measured.length);
-        check_lines(&input, text, measured.length);
-        free(text);
+    } else if (measured.stored.length <= MOST_TEXT) {
+        check_text(&input, measured);
     }
     return 0;
 }

@@ -1,8 +1,8 @@
-/* memory: lets each allocation of a print fail in turn. Linked with --wrap=malloc and --wrap=realloc, so that the library's allocations call
- * the functions below. For C99. */
+/* memory: lets each allocation of a print fail in turn. Linked with --wrap=malloc, --wrap=realloc and --wrap=free, so that the allocations
+ * of the library and of the header call the functions below. For C99 and C++. */
 #include "checked.h"
+#include "expect.h"
 
-#include <stdio.h>
 #include <stdlib.h>
 
 enum { ROOM = 4096, ALL = -1 };
@@ -10,12 +10,25 @@ enum { ROOM = 4096, ALL = -1 };
 /* Forty spaces. */
 #define INDENT "                                        "
 
+#ifdef __cplusplus
+extern "C" {
+#endif
+
 void *__real_malloc(size_t size);
 void *__real_realloc(void *old, size_t size);
+void __real_free(void *old);
+void *__wrap_malloc(size_t size);
+void *__wrap_realloc(void *old, size_t size);
+void __wrap_free(void *old);
+
+#ifdef __cplusplus
+}
+#endif
 
 /* The number of allocations that still succeed, or ALL. */
 static long allowed = ALL;
 static unsigned refused;
+static long live; /* the number of blocks that are not freed yet */
 
 static bool is_allowed(void) {
     if (allowed == 0) {
@@ -28,17 +41,45 @@ static bool is_allowed(void) {
     return true;
 }
 
-void *__wrap_malloc(size_t size) { return is_allowed() ? __real_malloc(size) : NULL; }
+/* Counts a block, if there is one. */
+static void *counted(void *block) {
+    live += block != NULL;
+    return block;
+}
 
-void *__wrap_realloc(void *old, size_t size) { return is_allowed() ? __real_realloc(old, size) : NULL; }
+void *__wrap_malloc(size_t size) { return is_allowed() ? counted(__real_malloc(size)) : NULL; }
 
-static unsigned failed;
-
-static void expect(bool is_right, const char *title, const char *what) {
-    if (!is_right) {
-        printf("memory: %s: wrong %s\n", title, what);
-        failed++;
+void *__wrap_realloc(void *old, size_t size) {
+    if (old == NULL) {
+        return __wrap_malloc(size);
     }
+    return is_allowed() ? __real_realloc(old, size) : NULL;
+}
+
+void __wrap_free(void *old) {
+    live -= old != NULL;
+    __real_free(old);
+}
+
+/* A way to print to a buffer of ROOM bytes. */
+typedef Outcome (*Printer)(const Input *input, uint8_t *out);
+
+static Outcome print_to_buffer(const Input *input, uint8_t *out) { return print_text(input, out, ROOM); }
+
+static Outcome print_with_lines(const Input *input, uint8_t *out) {
+    static WasmprinterLine lines[ROOM];
+    return print_lines(input, out, ROOM, lines, ROOM);
+}
+
+/* Prints to a block, and copies the text to the buffer. */
+static Outcome print_to_block(const Input *input, uint8_t *out) {
+    WasmprinterBuffer text = {NULL, GUARD};
+    Outcome outcome = print_alloc(input, &text);
+    if (expect(text.len == outcome.stored.length && text.len <= ROOM, "a block", "length") && text.len > 0) {
+        memcpy(out, text.ptr, text.len);
+    }
+    free(text.ptr);
+    return outcome;
 }
 
 /* Returns the number of bytes that a buffer has in common with a text. */
@@ -50,30 +91,39 @@ static size_t prefix_of(const uint8_t *out, const char *text) {
     return len;
 }
 
-/* Prints with every number of allowed allocations, until none is refused. Each failure must be reported. It leaves the buffer unchanged or,
- * if operators are folded, with a prefix of the text. */
-static void check(const char *title, const Input *input, const char *text, bool has_lines, unsigned at_least) {
+/* Checks a print none of whose allocations failed. */
+static void check_printed(const char *title, Outcome outcome, const uint8_t *out, const char *text) {
+    expect(outcome.status == WASMPRINTER_OK && outcome.stored.length == strlen(text), title, "outcome");
+    expect(is_over(out, ROOM, ROOM, text, strlen(text)), title, "text");
+}
+
+/* Checks a print one of whose allocations failed. It leaves the buffer unchanged or, if operators are folded, with a prefix of the text. */
+static void check_refused(const char *title, Outcome outcome, const uint8_t *out, const char *text, bool is_folded) {
+    const Outcome memory = {WASMPRINTER_MEMORY, {0, 0, 0}};
+    expect(is_same(outcome, memory), title, "error");
+    expect(is_unchanged(out, is_folded ? prefix_of(out, text) : 0, ROOM), title, "buffer after an error");
+}
+
+/* Prints with every number of allowed allocations, until none is refused. Each failure must be reported, and every block freed. Returns the
+ * number of failures. */
+static unsigned check(const char *title, Printer print, const Input *input, const char *text, unsigned at_least) {
     static uint8_t out[ROOM];
-    static WasmprinterLine lines[ROOM];
     unsigned failures = 0;
-    for (bool is_done = false; !is_done; failures++) {
+    for (;; failures++) {
+        const long before = live;
         memset(out, GUARD, sizeof out);
         refused = 0;
         allowed = (long)failures;
-        Outcome outcome = has_lines ? print_lines(input, out, sizeof out, lines, ROOM) : print_text(input, out, sizeof out);
+        Outcome outcome = print(input, out);
         allowed = ALL;
-        is_done = refused == 0;
-        if (is_done) {
-            expect(outcome.status == WASMPRINTER_OK && outcome.length == strlen(text), title, "outcome");
-            expect(is_over(out, sizeof out, sizeof out, text, strlen(text)), title, "text");
-        } else {
-            expect(outcome.status == WASMPRINTER_MEMORY && outcome.length == 0 && outcome.detail == 0, title, "error");
-            size_t written = input->options.fold ? prefix_of(out, text) : 0;
-            expect(is_unchanged(out, written, sizeof out), title, "buffer after an error");
+        expect(live == before, title, "number of blocks that are not freed");
+        if (refused == 0) {
+            check_printed(title, outcome, out, text);
+            expect(failures >= at_least, title, "number of failures");
+            return failures;
         }
+        check_refused(title, outcome, out, text, (input->options.flags & WASMPRINTER_FOLD) != 0);
     }
-    expect(failures > at_least, title, "number of failures");
-    printf("memory: %s: %u failed allocations\n", title, failures - 1);
 }
 
 int main(void) {
@@ -81,13 +131,15 @@ int main(void) {
     static const char empty[] = "\0asm\1\0\0";
     static const char typed[] = "\0asm\1\0\0\0\1\4\1\x60\0";
     static const char text[] = "(module\n" INDENT "(type (;0;) (func))\n)\n";
-    const Input nothing = {(const uint8_t *)empty, sizeof empty, {false, false, false, false}, (const uint8_t *)INDENT, sizeof INDENT - 1};
-    const Input flat = {(const uint8_t *)typed, sizeof typed, {false, false, false, false}, (const uint8_t *)INDENT, sizeof INDENT - 1};
-    const Input folded = {(const uint8_t *)typed, sizeof typed, {false, false, false, true}, (const uint8_t *)INDENT, sizeof INDENT - 1};
-    check("a long indent and an empty module", &nothing, "(module)\n", false, 1);
-    check("a long indent and a type", &flat, text, false, 2);
-    check("the same with lines", &flat, text, true, 2);
-    check("the same, folded", &folded, text, false, 2);
-    printf("memory: %u differences\n", failed);
+    const Input nothing = {{empty, sizeof empty}, {0, {INDENT, sizeof INDENT - 1}}};
+    const Input flat = {{typed, sizeof typed}, {0, {INDENT, sizeof INDENT - 1}}};
+    const Input folded = {{typed, sizeof typed}, {WASMPRINTER_FOLD, {INDENT, sizeof INDENT - 1}}};
+    unsigned failures = check("a long indent and an empty module", print_to_buffer, &nothing, "(module)\n", 1);
+    failures += check("a long indent and a type", print_to_buffer, &flat, text, 2);
+    failures += check("the same with lines", print_with_lines, &flat, text, 2);
+    failures += check("the same, folded", print_to_buffer, &folded, text, 2);
+    failures += check("the same, allocated", print_to_block, &flat, text, 3);
+    failures += check("the same, folded and allocated", print_to_block, &folded, text, 3);
+    printf(LANGUAGE ": %u failed allocations, %u differences\n", failures, failed);
     return failed == 0 ? 0 : 1;
 }

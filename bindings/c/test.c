@@ -1,17 +1,25 @@
-/* test FILE: checks every case of bindings/cases.txt. Prints each case that differs, and the counts; the status is 1 if a case differs. For C99
- * and C++. */
+/* test FILE: checks every case of bindings/cases.txt, and calls that no case describes. Prints each difference and the counts; the status
+ * is 1 if there is a difference. For C99 and C++. */
 #include "checked.h"
+#include "expect.h"
 
-#include <stdio.h>
 #include <stdlib.h>
 
-#ifdef __cplusplus
-#define LANGUAGE "c++"
-#else
-#define LANGUAGE "c"
-#endif
+enum { MOST_LINES = 64, LINE_ROOM = 512, WASM_ROOM = 1 << 20, TEXT_ROOM = 4096, ERROR_ROOM = WASMPRINTER_ERROR_TEXT_LEN + 2 };
 
-enum { MOST_LINES = 64, LINE_ROOM = 512, WASM_ROOM = 1 << 20, TEXT_ROOM = 4096 };
+/* The bits of the flags that choose no option. */
+enum { FIRST_UNKNOWN_BIT = 4, BITS = 32 };
+
+/* The flags of the words in the file of cases. */
+static const struct {
+    const char *word;
+    uint32_t flag;
+} OPTIONS[] = {
+    {"offsets", WASMPRINTER_OFFSETS},
+    {"skeleton", WASMPRINTER_SKELETON},
+    {"name_unnamed", WASMPRINTER_NAME_UNNAMED},
+    {"fold", WASMPRINTER_FOLD},
+};
 
 /* A case: the input and the expected results. */
 typedef struct Case {
@@ -29,7 +37,7 @@ typedef struct Case {
 /* The names of the errors in the file of cases. */
 static const struct {
     const char *name;
-    uint32_t status;
+    WasmprinterStatus status;
 } ERRORS[] = {
     {"Malformed", WASMPRINTER_MALFORMED},
     {"Component", WASMPRINTER_COMPONENT},
@@ -44,7 +52,9 @@ static const struct {
 
 static uint8_t wasm[WASM_ROOM];
 static unsigned cases;
-static unsigned failed;
+
+/* The block that wasmprinter_print_alloc printed to. Each case uses that of the case before. */
+static WasmprinterBuffer block;
 
 /* Stops the test if the file of cases itself is wrong. */
 static void expect_file(bool is_right, const char *line) {
@@ -78,20 +88,15 @@ static size_t read_bytes(const char *words, uint8_t *bytes, size_t len, size_t r
     }
 }
 
-static void read_options(const char *words, WasmprinterOptions *options) {
+/* Adds options to the flags. */
+static void read_options(const char *words, uint32_t *flags) {
     while (*words != '\0') {
-        const char *rest;
-        if ((rest = after("offsets", words)) != NULL) {
-            options->offsets = true;
-        } else if ((rest = after("skeleton", words)) != NULL) {
-            options->skeleton = true;
-        } else if ((rest = after("name_unnamed", words)) != NULL) {
-            options->name_unnamed = true;
-        } else if ((rest = after("fold", words)) != NULL) {
-            options->fold = true;
-        } else {
-            expect_file(false, words);
+        const char *rest = NULL;
+        for (size_t i = 0; i < sizeof OPTIONS / sizeof OPTIONS[0] && rest == NULL; i++) {
+            rest = after(OPTIONS[i].word, words);
+            *flags |= rest != NULL ? OPTIONS[i].flag : 0;
         }
+        expect_file(rest != NULL, words);
         words = rest;
     }
 }
@@ -106,16 +111,17 @@ static void add_text(Case *test_case, const char *text, size_t len) {
 /* Appends a line of the text, with its place. */
 static void read_text(Case *test_case, const char *line) {
     const char *bar = strchr(line, '|');
-    expect_file(bar != NULL && test_case->outcome.count < MOST_LINES, line);
-    WasmprinterLine *entry = &test_case->lines[test_case->outcome.count++];
+    expect_file(bar != NULL && test_case->outcome.stored.count < MOST_LINES, line);
+    WasmprinterLine *entry = &test_case->lines[test_case->outcome.stored.count++];
     entry->start = test_case->text_len;
     entry->place = bar == line ? 0 : strtoull(line, NULL, 16);
     entry->has_place = bar != line;
     add_text(test_case, bar + 1, strlen(bar + 1));
     add_text(test_case, "\n", 1);
-    test_case->outcome.length = test_case->text_len;
+    test_case->outcome.stored.length = test_case->text_len;
 }
 
+/* Reads an error with its detail and its description. */
 static void read_error(Case *test_case, const char *words) {
     const char *rest = NULL;
     for (size_t i = 0; i < sizeof ERRORS / sizeof ERRORS[0] && rest == NULL; i++) {
@@ -124,9 +130,16 @@ static void read_error(Case *test_case, const char *words) {
     }
     expect_file(rest != NULL, words);
     char *end;
-    test_case->outcome.detail = strtoull(rest, &end, 10);
+    test_case->outcome.stored.detail = strtoull(rest, &end, 10);
     expect_file(end != rest && *end == ' ', words);
     strcpy(test_case->error, end + 1);
+}
+
+/* Appends this number of zero bytes to the module. */
+static void add_zeros(Input *input, size_t zeros) {
+    expect_file(zeros <= sizeof wasm - input->wasm.len, "zeros");
+    memset(wasm + input->wasm.len, 0, zeros);
+    input->wasm.len += zeros;
 }
 
 /* Reads a line of a case. */
@@ -134,16 +147,13 @@ static void read_line(Case *test_case, const char *line) {
     Input *input = &test_case->input;
     const char *words;
     if ((words = after("set", line)) != NULL) {
-        read_options(words, &input->options);
+        read_options(words, &input->options.flags);
     } else if ((words = after("indent", line)) != NULL) {
-        input->indent_len = read_bytes(words, test_case->indent, 0, sizeof test_case->indent);
+        input->options.indent = wasmprinter_bytes(test_case->indent, read_bytes(words, test_case->indent, 0, sizeof test_case->indent));
     } else if ((words = after("wasm", line)) != NULL) {
-        input->wasm_len = read_bytes(words, wasm, input->wasm_len, sizeof wasm);
+        input->wasm.len = read_bytes(words, wasm, input->wasm.len, sizeof wasm);
     } else if ((words = after("zeros", line)) != NULL) {
-        size_t zeros = strtoul(words, NULL, 10);
-        expect_file(zeros <= sizeof wasm - input->wasm_len, line);
-        memset(wasm + input->wasm_len, 0, zeros);
-        input->wasm_len += zeros;
+        add_zeros(input, strtoul(words, NULL, 10));
     } else if (after("places", line) != NULL) {
         test_case->has_places = true;
     } else if ((words = after("error", line)) != NULL) {
@@ -159,26 +169,16 @@ static void read_line(Case *test_case, const char *line) {
 static void start_case(Case *test_case, const char *title) {
     memset(test_case, 0, sizeof *test_case);
     strcpy(test_case->title, title);
-    memcpy(test_case->indent, WASMPRINTER_INDENT, WASMPRINTER_INDENT_LEN);
-    test_case->input.wasm = wasm;
-    test_case->input.indent = test_case->indent;
-    test_case->input.indent_len = WASMPRINTER_INDENT_LEN;
+    test_case->input.wasm.ptr = wasm;
 }
 
-/* Prints a message if a result is wrong. Returns whether it is right. */
-static bool expect(const char *title, bool is_right, const char *what) {
-    if (!is_right) {
-        printf(LANGUAGE ": %s: wrong %s\n", title, what);
-        failed++;
-    }
-    return is_right;
-}
-
-static bool expect_outcome(const Case *test_case, Outcome outcome, size_t count) {
-    return expect(test_case->title, outcome.status == test_case->outcome.status, "status") &&
-           expect(test_case->title, outcome.detail == test_case->outcome.detail, "detail") &&
-           expect(test_case->title, outcome.length == test_case->outcome.length, "length") &&
-           expect(test_case->title, outcome.count == count, "count of lines");
+/* Compares the outcome of a call with that of the case. */
+static bool expect_outcome(const Case *test_case, Outcome outcome) {
+    const Outcome *typed = &test_case->outcome;
+    return expect(outcome.status == typed->status, test_case->title, "status") &&
+           expect(outcome.stored.detail == typed->stored.detail, test_case->title, "detail") &&
+           expect(outcome.stored.length == typed->stored.length, test_case->title, "length") &&
+           expect(outcome.stored.count == typed->stored.count, test_case->title, "count of lines");
 }
 
 /* Prints to a buffer of each size from 0 to one byte more than the text. */
@@ -187,8 +187,8 @@ static void check_text(const Case *test_case) {
     bool is_right = true;
     for (size_t room = 0; is_right && room <= test_case->text_len + 1; room++) {
         memset(out, GUARD, sizeof out);
-        is_right = expect_outcome(test_case, print_text(&test_case->input, out, room), 0) &&
-                   expect(test_case->title, is_over(out, sizeof out, room, test_case->text, test_case->text_len), "text");
+        is_right = expect_outcome(test_case, print_text(&test_case->input, out, room)) &&
+                   expect(is_over(out, sizeof out, room, test_case->text, test_case->text_len), test_case->title, "text");
     }
 }
 
@@ -198,8 +198,8 @@ static bool expect_lines(const Case *test_case, const WasmprinterLine *lines, si
     for (size_t i = 0; is_right && i < count; i++) {
         const WasmprinterLine *typed = &test_case->lines[i];
         bool is_place = lines[i].place == typed->place && lines[i].has_place == typed->has_place;
-        is_right = expect(test_case->title, lines[i].start == typed->start, "start of a line") &&
-                   expect(test_case->title, is_place || !test_case->has_places, "place");
+        is_right = expect(lines[i].start == typed->start, test_case->title, "start of a line") &&
+                   expect(is_place || !test_case->has_places, test_case->title, "place");
     }
     return is_right;
 }
@@ -208,7 +208,8 @@ static bool expect_lines(const Case *test_case, const WasmprinterLine *lines, si
 static void check_lines(const Case *test_case) {
     static uint8_t out[TEXT_ROOM];
     WasmprinterLine lines[MOST_LINES + 1];
-    size_t count = test_case->outcome.count;
+    const char *title = test_case->title;
+    size_t count = test_case->outcome.stored.count;
     bool is_right = true;
     for (size_t room = 0; is_right && room <= count + 1; room++) {
         memset(out, GUARD, sizeof out);
@@ -217,29 +218,107 @@ static void check_lines(const Case *test_case) {
         size_t fits = room < count ? room : count;
         /* after an error the entries of the table are not specified */
         size_t written = test_case->outcome.status == WASMPRINTER_OK ? fits : room;
-        is_right = expect_outcome(test_case, outcome, count) && expect_lines(test_case, lines, fits) &&
-                   expect(test_case->title, is_over(out, sizeof out, sizeof out, test_case->text, test_case->text_len), "text of the lines") &&
-                   expect(test_case->title, is_unchanged(lines, written * sizeof *lines, sizeof lines), "entry after the last line");
+        is_right = expect_outcome(test_case, outcome) && expect_lines(test_case, lines, fits) &&
+                   expect(is_over(out, sizeof out, sizeof out, test_case->text, test_case->text_len), title, "text of the lines") &&
+                   expect(is_unchanged(lines, written * sizeof *lines, sizeof lines), title, "entry after the last line");
     }
 }
 
-/* Writes the description of a status to a buffer of each size. */
-static void check_error_text(const char *title, uint32_t status, uint64_t detail, const char *text) {
-    uint8_t out[WASMPRINTER_ERROR_TEXT_LEN];
+/* Prints to memory from `realloc`. */
+static void check_alloc(const Case *test_case) {
+    const char *title = test_case->title;
+    size_t length = test_case->outcome.stored.length;
+    block.len = GUARD;
+    if (expect_outcome(test_case, print_alloc(&test_case->input, &block)) && expect(block.len == length, title, "length of the block") &&
+        test_case->outcome.status == WASMPRINTER_OK) {
+        expect(memcmp(block.ptr, test_case->text, length) == 0 && block.ptr[length] == '\0', title, "text of the block");
+    }
+}
+
+/* Prints with flags that have unknown bits. Nothing may be written. */
+static bool check_unknown_options(const Case *test_case, uint32_t flags) {
+    uint8_t out[LINE_ROOM];
+    WasmprinterLine lines[MOST_LINES];
+    Input input = test_case->input;
+    input.options.flags = flags;
+    memset(out, GUARD, sizeof out);
+    memset(lines, GUARD, sizeof lines);
+    Outcome outcome = print_lines(&input, out, sizeof out, lines, MOST_LINES);
+    return expect(outcome.status == WASMPRINTER_UNKNOWN_OPTION, test_case->title, "status of an unknown option") &&
+           expect(outcome.stored.detail == (flags & ~(uint32_t)ALL_OPTIONS), test_case->title, "detail of an unknown option") &&
+           expect(outcome.stored.length == 0 && outcome.stored.count == 0, test_case->title, "length or count after an unknown option") &&
+           expect(is_unchanged(out, 0, sizeof out), test_case->title, "buffer after an unknown option") &&
+           expect(is_unchanged(lines, 0, sizeof lines), test_case->title, "table after an unknown option");
+}
+
+/* Sets each unknown bit of the flags, with each set of known options, and all bits. */
+static void check_unknown_bits(const Case *test_case) {
+    bool is_right = check_unknown_options(test_case, UINT32_MAX);
+    for (unsigned bit = FIRST_UNKNOWN_BIT; is_right && bit < BITS; bit++) {
+        for (uint32_t known = 0; is_right && known <= ALL_OPTIONS; known++) {
+            is_right = check_unknown_options(test_case, (uint32_t)1 << bit | known);
+        }
+    }
+}
+
+/* Returns whether the first `room` bytes of a buffer hold as much of a text as fits with a zero byte, and the other bytes are unchanged. */
+static bool is_terminated(const char *buffer, size_t len, size_t room, const char *text) {
+    if (room == 0) {
+        return is_unchanged(buffer, 0, len);
+    }
+    size_t fits = strlen(text) < room ? strlen(text) : room - 1;
+    return memcmp(buffer, text, fits) == 0 && buffer[fits] == '\0' && is_unchanged(buffer, fits + 1, len);
+}
+
+/* Writes the description of a status, null-terminated, to a buffer of each size. */
+static void check_terminated_text(const char *title, WasmprinterStatus status, uint64_t detail, const char *text) {
+    char out[ERROR_ROOM];
     bool is_right = true;
     for (size_t room = 0; is_right && room <= sizeof out; room++) {
         memset(out, GUARD, sizeof out);
-        is_right = expect(title, wasmprinter_error_text(status, detail, out, room) == strlen(text), "length of the description") &&
-                   expect(title, is_over(out, sizeof out, room, text, strlen(text)), "description");
+        size_t length = wasmprinter_error_text(status, detail, wasmprinter_buffer(out, room));
+        is_right = expect(length == strlen(text), title, "length of the description") &&
+                   expect(is_terminated(out, sizeof out, room, text), title, "description");
     }
 }
 
-static void check(const Case *test_case) {
-    cases++;
+/* Does the same without a zero byte. */
+static void check_raw_text(const char *title, WasmprinterStatus status, uint64_t detail, const char *text) {
+    uint8_t out[ERROR_ROOM];
+    bool is_right = true;
+    for (size_t room = 0; is_right && room <= sizeof out; room++) {
+        memset(out, GUARD, sizeof out);
+        size_t length = wasmprinter_raw_error_text(status, detail, out, room);
+        is_right = expect(length == strlen(text), title, "length of the raw description") &&
+                   expect(is_over(out, sizeof out, room, text, length), title, "raw description");
+    }
+}
+
+static void check_error_text(const char *title, WasmprinterStatus status, uint64_t detail, const char *text) {
+    expect(strlen(text) <= WASMPRINTER_ERROR_TEXT_LEN, title, "longest description");
+    check_terminated_text(title, status, detail, text);
+    check_raw_text(title, status, detail, text);
+}
+
+/* Prints a case in each way. */
+static void check_printing(const Case *test_case) {
     check_text(test_case);
     check_lines(test_case);
+    check_alloc(test_case);
+    check_unknown_bits(test_case);
+}
+
+static void check(Case *test_case) {
+    WasmprinterBytes *indent = &test_case->input.options.indent;
+    cases++;
+    check_printing(test_case);
+    if (indent->ptr == NULL) {
+        /* the default in full */
+        *indent = wasmprinter_bytes("  ", 2);
+        check_printing(test_case);
+    }
     if (test_case->outcome.status != WASMPRINTER_OK) {
-        check_error_text(test_case->title, test_case->outcome.status, test_case->outcome.detail, test_case->error);
+        check_error_text(test_case->title, test_case->outcome.status, test_case->outcome.stored.detail, test_case->error);
     }
 }
 
@@ -268,54 +347,66 @@ static void check_file(FILE *file) {
     check(&test_case);
 }
 
-/* Checks calls with null pointers. */
-static void check_null(void) {
-    const char *title = "null pointers";
-    const uint8_t *module = (const uint8_t *)"\0asm\1\0\0";
-    const size_t module_len = 8; /* with the zero byte at the end of the string */
-    size_t length = GUARD;
-    size_t count = GUARD;
-    uint32_t status = wasmprinter_print_nullable(NULL, 0, NULL, NULL, 0, NULL, 0, NULL, NULL);
-    expect(title, status == WASMPRINTER_MALFORMED, "status of no bytes");
-    status = wasmprinter_print_nullable(module, module_len, NULL, NULL, 0, NULL, 0, &length, NULL);
-    expect(title, status == WASMPRINTER_OK && length == strlen("(module)\n"), "length");
-    status = wasmprinter_print_lines_nullable(module, module_len, NULL, NULL, 0, NULL, 0, NULL, 0, NULL, &count, NULL);
-    expect(title, status == WASMPRINTER_OK && count == 1, "count of lines");
-    expect(title, wasmprinter_error_text_nullable(WASMPRINTER_OK, 0, NULL, 0) == strlen("success"), "length of a description");
+/* Returns a small module and its length. The last byte is the zero byte at the end of the string. */
+static WasmprinterBytes one_type(void) {
+    static const char module[] = "\0asm\1\0\0\0\1\4\1\x60\0";
+    return wasmprinter_bytes(module, sizeof module);
 }
 
-/* Checks that a null pointer counts as empty, whatever length is passed with it. */
-static void check_null_with_lengths(void) {
-    const char *title = "null pointers with lengths";
-    const uint8_t *module = (const uint8_t *)"\0asm\1\0\0\0\1\4\1\x60\0";
-    const size_t module_len = 14; /* with the zero byte at the end of the string */
-    const char *text = "(module\n(type (;0;) (func))\n)\n";
-    const size_t some = 4096;
-    size_t length = GUARD;
-    size_t count = GUARD;
-    uint32_t status = wasmprinter_print_nullable(NULL, module_len, NULL, NULL, some, NULL, some, NULL, NULL);
-    expect(title, status == WASMPRINTER_MALFORMED, "status of no bytes");
-    status = wasmprinter_print_nullable(module, module_len, NULL, NULL, some, NULL, some, &length, NULL);
-    expect(title, status == WASMPRINTER_OK && length == strlen(text), "length");
-    status = wasmprinter_print_lines_nullable(module, module_len, NULL, NULL, some, NULL, some, NULL, some, NULL, &count, NULL);
-    expect(title, status == WASMPRINTER_OK && count == 3, "count of lines");
-    expect(title, wasmprinter_error_text_nullable(WASMPRINTER_OK, 0, NULL, some) == strlen("success"), "length of a description");
+/* Checks that a null pointer counts as empty, whatever length is passed with it, and that a null indent is the default. */
+static void check_null(const char *title, size_t len) {
+    static const char text[] = "(module\n  (type (;0;) (func))\n)\n";
+    const WasmprinterBytes no_bytes = {NULL, len};
+    const WasmprinterBuffer no_text = {NULL, len};
+    const WasmprinterTable no_lines = {NULL, len};
+    const WasmprinterOptions options = {0, {NULL, len}};
+    WasmprinterResult result = {GUARD, GUARD, GUARD};
+    expect(wasmprinter_print(no_bytes, NULL, no_text, NULL) == WASMPRINTER_MALFORMED, title, "status of no bytes");
+    expect(wasmprinter_print_lines(no_bytes, &options, no_text, no_lines, NULL) == WASMPRINTER_MALFORMED, title, "status of no bytes");
+    expect(wasmprinter_print(one_type(), NULL, no_text, NULL) == WASMPRINTER_OK, title, "status without a result");
+    expect(wasmprinter_print(one_type(), NULL, no_text, &result) == WASMPRINTER_OK, title, "status");
+    expect(result.length == strlen(text) && result.count == 3 && result.detail == 0, title, "result");
+    result = no_outcome().stored;
+    expect(wasmprinter_print_lines(one_type(), &options, no_text, no_lines, &result) == WASMPRINTER_OK, title, "status of the lines");
+    expect(result.length == strlen(text) && result.count == 3 && result.detail == 0, title, "result of the lines");
+    expect(wasmprinter_error_text(WASMPRINTER_OK, 0, no_text) == strlen("success"), title, "length of a description");
+}
+
+/* Checks wasmprinter_print_alloc with null pointers. */
+static void check_null_alloc(void) {
+    const char *title = "null pointers, allocated";
+    WasmprinterBuffer text = {NULL, GUARD};
+    expect(wasmprinter_print_alloc(wasmprinter_bytes(NULL, GUARD), NULL, NULL, NULL, &text, NULL) == WASMPRINTER_MALFORMED, title,
+           "status of no bytes");
+    expect(text.len == 0, title, "length after an error");
+    if (expect(wasmprinter_print_alloc(one_type(), NULL, NULL, NULL, &text, NULL) == WASMPRINTER_OK, title, "status")) {
+        expect(strcmp(text.ptr, "(module\n  (type (;0;) (func))\n)\n") == 0, title, "text");
+    }
+    free(text.ptr);
 }
 
 /* Checks an indent with a zero byte, which the file of cases can't hold. */
 static void check_zero_byte(void) {
-    static const char module[] = "\0asm\1\0\0\0\1\4\1\x60\0"; /* with the zero byte at the end of the string */
     static const char indent[] = {'\0', '\t'};
     static const char text[] = "(module\n\0\t(type (;0;) (func))\n)\n";
     static Case test_case;
     start_case(&test_case, "an indent with a zero byte");
-    memcpy(wasm, module, sizeof module);
-    test_case.input.wasm_len = sizeof module;
-    memcpy(test_case.indent, indent, sizeof indent);
-    test_case.input.indent_len = sizeof indent;
+    test_case.input.wasm = one_type();
+    test_case.input.options.indent = wasmprinter_bytes(indent, sizeof indent);
     add_text(&test_case, text, sizeof text - 1);
-    test_case.outcome.length = test_case.text_len;
+    test_case.outcome.stored.length = test_case.text_len;
+    test_case.outcome.stored.count = 3;
     check_text(&test_case);
+    check_alloc(&test_case);
+}
+
+/* Checks which of two errors is returned, for a pair that no case has. */
+static void check_precedence(void) {
+    static Case test_case;
+    start_case(&test_case, "no bytes and an indent that is not UTF-8");
+    test_case.input.options.indent = wasmprinter_bytes("\xff", 1);
+    test_case.outcome.status = WASMPRINTER_INVALID_INDENT;
+    check_printing(&test_case);
 }
 
 /* Checks the descriptions of statuses that no case has. */
@@ -325,10 +416,36 @@ static void check_other_statuses(void) {
     check_error_text(title, WASMPRINTER_UNREADABLE, 0, "the file can't be read");
     check_error_text(title, WASMPRINTER_TOO_LONG, 0, "the text is too long");
     check_error_text(title, WASMPRINTER_MEMORY, 0, "out of memory");
-    check_error_text(title, WASMPRINTER_INVALID_INDENT + 1, 0, "unknown status");
+    check_error_text(title, WASMPRINTER_UNKNOWN_OPTION, 0x10, "unknown options 0x10");
+    check_error_text(title, WASMPRINTER_UNKNOWN_OPTION, 0xfffffff0, "unknown options 0xfffffff0");
+    check_error_text(title, WASMPRINTER_UNKNOWN_OPTION + 1, 0, "unknown status");
     check_error_text(title, UINT32_MAX, 0, "unknown status");
     check_error_text(title, WASMPRINTER_MALFORMED, UINT64_MAX, "malformed module at byte 0xffffffffffffffff");
     check_error_text(title, WASMPRINTER_TOO_MANY_FUNCTIONS, UINT64_MAX, "module has 18446744073709551615 functions, more than 1000000");
+}
+
+static void check_status_names(void) {
+    static const char *const names[] = {
+        "success",
+        "malformed module",
+        "component",
+        "too many locals",
+        "too many functions",
+        "empty initialiser of a table",
+        "legacy exception operator can't be folded",
+        "branch hint can't be folded",
+        "unknown dylink.0 subsection",
+        "unreadable file",
+        "text too long",
+        "out of memory",
+        "indent is not UTF-8",
+        "unknown options",
+        "unknown status",
+    };
+    for (uint32_t status = 0; status < sizeof names / sizeof names[0]; status++) {
+        expect(strcmp(wasmprinter_status_name(status), names[status]) == 0, names[status], "name");
+    }
+    expect(strcmp(wasmprinter_status_name(UINT32_MAX), "unknown status") == 0, "the greatest status", "name");
 }
 
 int main(int argc, char **argv) {
@@ -336,11 +453,16 @@ int main(int argc, char **argv) {
     expect_file(file != NULL, "its start");
     check_file(file);
     fclose(file);
-    check_null();
-    check_null_with_lengths();
+    check_null("null pointers", 0);
+    check_null("null pointers with lengths", TEXT_ROOM);
+    check_null_alloc();
     check_zero_byte();
+    check_precedence();
     check_other_statuses();
-    expect("the library", wasmprinter_version() == WASMPRINTER_VERSION, "version");
+    check_status_names();
+    expect(wasmprinter_version() == WASMPRINTER_VERSION, "the library", "version");
+    expect(wasmprinter_revision() == WASMPRINTER_REVISION, "the library", "revision");
+    free(block.ptr);
     printf(LANGUAGE ": %u cases, %u differences\n", cases, failed);
     return failed == 0 ? 0 : 1;
 }

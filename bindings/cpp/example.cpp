@@ -1,65 +1,41 @@
-// example FILE: writes the text of a module to standard output.
-#include "wasmprinter.h"
+// example FILE: writes the text of a module to standard output. The status is 2 after a wrong use, and 1 after any other failure.
+#include "wasmprinter.hpp"
 
 #include <exception>
 #include <fstream>
 #include <iostream>
 #include <iterator>
-#include <new>
 #include <stdexcept>
 #include <string>
-#include <string_view>
-#include <vector>
 
 // Reads a whole file. Throws if that fails.
-static std::vector<uint8_t> read_file(const char *path) {
+static std::string read_file(const char *path) {
     std::ifstream file(path, std::ios::binary);
     if (!file) {
-        throw std::runtime_error("name one file that can be read");
+        throw std::runtime_error("the file can't be read");
     }
     return {std::istreambuf_iterator<char>(file), {}};
 }
 
-// Returns the description of an error.
-static std::string error_text(uint32_t status, uint64_t detail) {
-    std::string text(WASMPRINTER_ERROR_TEXT_LEN, '\0');
-    text.resize(wasmprinter_error_text(status, detail, reinterpret_cast<uint8_t *>(text.data()), text.size()));
-    return text;
-}
-
-// Returns the text of a module. Throws if it can't be printed.
-static std::string print(const std::vector<uint8_t> &wasm, const WasmprinterOptions &options = {}, std::string_view indent = "  ") {
-    std::string text;
-    // The first round measures, the second one prints.
-    for (;;) {
-        std::size_t length = 0;
-        uint64_t detail = 0;
-        uint32_t status =
-            wasmprinter_print_nullable(wasm.data(), wasm.size(), &options, reinterpret_cast<const uint8_t *>(indent.data()), indent.size(),
-                                       reinterpret_cast<uint8_t *>(text.data()), text.size(), &length, &detail);
-        if (status == WASMPRINTER_MEMORY) {
-            throw std::bad_alloc();
-        }
-        if (status != WASMPRINTER_OK) {
-            throw std::runtime_error(error_text(status, detail));
-        }
-        const bool fits = length <= text.size();
-        text.resize(length);
-        if (fits) {
-            return text;
-        }
+// Writes text to standard output. Throws if that fails.
+static void write(const std::string &text) {
+    std::cout << text << std::flush;
+    if (!std::cout) {
+        throw std::runtime_error("the text can't be written");
     }
 }
 
 int main(int argc, char **argv) {
+    constexpr int wrong_use = 2;
+    if (argc != 2) {
+        std::cerr << "usage: example FILE\n";
+        return wrong_use;
+    }
     try {
-        std::cout << print(read_file(argc == 2 ? argv[1] : "")) << std::flush;
-        if (!std::cout) {
-            throw std::runtime_error("the text can't be written");
-        }
-        return 0;
+        write(wasmprinter::print(read_file(argv[1])));
+        return EXIT_SUCCESS;
     } catch (const std::exception &error) {
         std::cerr << "example: " << error.what() << '\n';
-        return 1;
+        return EXIT_FAILURE;
     }
 }

@@ -1,15 +1,48 @@
-"""Checks every case of bindings/cases.txt."""
+"""Checks every case of bindings/cases.txt, and the package itself."""
 
+import doctest
+import os
 import pathlib
 import pickle
+import subprocess
+import sys
+import tempfile
 import threading
 import unittest
+import unittest.mock
 
 import wasmprinter
 
 CASES = pathlib.Path(__file__).resolve().parent.parent / "cases.txt"
 EMPTY = b"\0asm\1\0\0\0"
 ONE_TYPE = EMPTY + b"\1\4\1\x60\0\0"
+
+# a function of many operators: its text has more lines than the first table has entries
+NOPS = 4000
+WITH_NOPS = ONE_TYPE + b"\3\2\1\0\x0a\xa5\x1f\1\xa2\x1f\0" + b"\1" * NOPS + b"\x0b"
+LINES_WITH_NOPS = [
+    (0, "(module\n"),
+    (11, "  (type (;0;) (func))\n"),
+    (24, "  (func (;0;) (type 0)\n"),
+    *((place, "    nop\n") for place in range(25, 4025)),
+    (4025, "  )\n"),
+    (4026, ")\n"),
+]
+
+# the statuses of the errors, and the names of their details
+ERRORS = {
+    "Malformed": (1, "place"),
+    "Component": (2, None),
+    "TooManyLocals": (3, "place"),
+    "TooManyFunctions": (4, "count"),
+    "EmptyTableInit": (5, "place"),
+    "FoldLegacy": (6, "place"),
+    "FoldHint": (7, "place"),
+    "DylinkSubsection": (8, "id"),
+    "TooLong": (10, None),
+    "OutOfMemory": (11, None),
+    "UnknownOption": (13, "bits"),
+}
 
 
 class Case:
@@ -68,7 +101,7 @@ class Cases(unittest.TestCase):
                 wasmprinter.print_bytes(case.wasm, **case.options)
         elif case.error is None:
             self.assertEqual(wasmprinter.print_bytes(case.wasm, **case.options), "".join(text for _, text in case.lines))
-            lines = wasmprinter.print_lines(case.wasm, **case.options)
+            lines = list(wasmprinter.print_lines(case.wasm, **case.options))
             self.assertEqual([line.text for line in lines], [text for _, text in case.lines])
             if case.has_places:
                 self.assertEqual([line.place for line in lines], [place for place, _ in case.lines])
@@ -78,22 +111,218 @@ class Cases(unittest.TestCase):
                 with self.assertRaises(wasmprinter.Error) as raised:
                     function(case.wasm, **case.options)
                 self.assertIs(type(raised.exception), getattr(wasmprinter, name))
-                self.assertEqual(raised.exception.detail, detail)
+                check_error(self, raised.exception, name, detail)
                 self.assertEqual(str(raised.exception), text)
 
 
-class Others(unittest.TestCase):
+def check_error(test, error, name, detail):
+    """Checks the fields of an error."""
+    status, field = ERRORS[name]
+    test.assertEqual((error.status, error.detail), (status, detail))
+    fields = {field: getattr(error, field) for field in ("place", "count", "id", "bits") if hasattr(error, field)}
+    test.assertEqual(fields, {} if field is None else {field: detail})
+
+
+class Errors(unittest.TestCase):
     def test_errors_that_no_case_has(self):
         self.assertEqual(str(wasmprinter.TooLong()), "the text is too long")
         self.assertEqual(str(wasmprinter.OutOfMemory()), "out of memory")
         self.assertTrue(issubclass(wasmprinter.OutOfMemory, MemoryError))
 
+    def test_each_class(self):
+        for name in ERRORS:
+            with self.subTest(name):
+                check_error(self, getattr(wasmprinter, name)(31), name, 31)
+
     def test_pickled_errors(self):
-        for error in (wasmprinter.Malformed(8), wasmprinter.OutOfMemory()):
+        for error in (wasmprinter.Malformed(8), wasmprinter.OutOfMemory(), wasmprinter.Error(7, status=99)):
             copy = pickle.loads(pickle.dumps(error))
             self.assertIs(type(copy), type(error))
-            self.assertEqual((copy.detail, str(copy)), (error.detail, str(error)))
+            self.assertEqual((copy.status, copy.detail, str(copy)), (error.status, error.detail, str(error)))
 
+    def test_unknown_option(self):
+        with self.assertRaises(wasmprinter.UnknownOption) as raised:
+            wasmprinter._print_whole(EMPTY, 0x38, b"  ", with_lines=False)
+        check_error(self, raised.exception, "UnknownOption", 0x30)
+        self.assertEqual(str(raised.exception), "unknown options 0x30")
+
+    def test_unknown_status(self):
+        for status, text in ((99, "unknown status"), (12, "the indent is not UTF-8")):
+            with unittest.mock.patch.object(wasmprinter, "_print", return_value=status):
+                with self.assertRaises(wasmprinter.Error) as raised:
+                    wasmprinter.print_bytes(EMPTY)
+            self.assertIs(type(raised.exception), wasmprinter.Error)
+            self.assertEqual((raised.exception.status, raised.exception.detail, str(raised.exception)), (status, 0, text))
+
+
+class Options(unittest.TestCase):
+    def test_no_bool(self):
+        for name in ("offsets", "skeleton", "name_unnamed", "fold"):
+            for value in (1, 0, "no", None, []):
+                for function in (wasmprinter.print_bytes, wasmprinter.print_lines):
+                    with self.subTest(name, value=value), self.assertRaisesRegex(TypeError, f"{name} must be a bool, not"):
+                        function(EMPTY, **{name: value})
+
+    def test_only_keywords(self):
+        for function in (wasmprinter.print_bytes, wasmprinter.print_lines, wasmprinter.print_file):
+            with self.assertRaises(TypeError):
+                function(EMPTY, True)
+
+    def test_number_of_spaces(self):
+        self.assertEqual(wasmprinter.print_bytes(ONE_TYPE, indent=0), "(module\n(type (;0;) (func))\n)\n")
+        self.assertEqual(wasmprinter.print_bytes(ONE_TYPE, indent=3), "(module\n   (type (;0;) (func))\n)\n")
+
+    def test_no_indent(self):
+        for indent in (True, 2.0, b"  ", None):
+            with self.subTest(indent), self.assertRaisesRegex(TypeError, "indent must be a str or an int, not"):
+                wasmprinter.print_bytes(ONE_TYPE, indent=indent)
+        with self.assertRaises(ValueError):
+            wasmprinter.print_bytes(ONE_TYPE, indent=-1)
+
+    def test_indent_with_a_zero_byte(self):
+        self.assertEqual(wasmprinter.print_bytes(ONE_TYPE, indent="\0é"), "(module\n\0é(type (;0;) (func))\n)\n")
+
+
+class Lines(unittest.TestCase):
+    def test_iterator(self):
+        lines = wasmprinter.print_lines(EMPTY)
+        self.assertIs(iter(lines), lines)
+        line = next(lines)
+        self.assertIsInstance(line, wasmprinter.Line)
+        self.assertEqual((line.place, line.text), (0, "(module)\n"))
+        self.assertEqual(list(lines), [])
+
+    def test_error_before_the_first_line(self):
+        with self.assertRaises(wasmprinter.Malformed):
+            wasmprinter.print_lines(b"")
+
+    def test_line_without_a_place(self):
+        """The line that closes a recursive group shows nothing of the module."""
+        group = EMPTY + b"\1\6\1\x4e\1\x60\0\0"
+        typed = [(0, "(module\n"), (11, "  (rec\n"), (13, "    (type (;0;) (func))\n"), (None, "  )\n"), (16, ")\n")]
+        self.assertEqual(list(wasmprinter.print_lines(group)), typed)
+
+    def test_line_of_other_characters(self):
+        lines = wasmprinter.print_lines(ONE_TYPE, indent="é")
+        self.assertEqual([line.text for line in lines], ["(module\n", "é(type (;0;) (func))\n", ")\n"])
+
+
+class Memory(unittest.TestCase):
+    """Texts and tables that are longer than the first buffers, and failing allocations."""
+
+    LONG = " " * 5000
+    TEXT = f"(module\n{LONG}(type (;0;) (func))\n)\n"
+
+    def test_long_text(self):
+        self.assertEqual(wasmprinter.print_bytes(ONE_TYPE, indent=self.LONG), self.TEXT)
+        self.assertEqual("".join(line.text for line in wasmprinter.print_lines(ONE_TYPE, indent=self.LONG)), self.TEXT)
+
+    def test_many_lines(self):
+        self.assertEqual(wasmprinter.print_bytes(WITH_NOPS), "".join(text for _, text in LINES_WITH_NOPS))
+        self.assertEqual(list(wasmprinter.print_lines(WITH_NOPS)), LINES_WITH_NOPS)
+
+    def test_calls(self):
+        """A text that fits is printed once, and any other twice."""
+        for wasm, indent, calls in ((WITH_NOPS, 2, 1), (ONE_TYPE, self.LONG, 2)):
+            with unittest.mock.patch.object(wasmprinter, "_print", wraps=wasmprinter._print) as function:
+                wasmprinter.print_bytes(wasm, indent=indent)
+            self.assertEqual(function.call_count, calls)
+
+    def test_capacities(self):
+        """The first buffer has 12 bytes for each byte of the module, and the first table an entry for 16 bytes of the buffer."""
+        for print_module, lines in ((wasmprinter.print_bytes, 0), (wasmprinter.print_lines, 330)):
+            with unittest.mock.patch.object(wasmprinter, "_print", wraps=wasmprinter._print) as function:
+                print_module(ONE_TYPE)
+            out_len, lines_len = function.call_args[0][6], function.call_args[0][8]
+            self.assertEqual((out_len, lines_len), (4264, lines))
+
+    def failing(self, longest):
+        """Lets allocations of more than a number of bytes fail."""
+        allocate = wasmprinter.mmap.mmap
+
+        def limited(descriptor, size, **others):
+            if size > longest:
+                raise OSError(12, "Cannot allocate memory")
+            return allocate(descriptor, size, **others)
+
+        return unittest.mock.patch.object(wasmprinter.mmap, "mmap", limited)
+
+    def test_little_memory(self):
+        """There is no memory for the first buffers, but for the text and the table."""
+        with self.failing(100):
+            self.assertEqual(wasmprinter.print_bytes(EMPTY), "(module)\n")
+            self.assertEqual(list(wasmprinter.print_lines(EMPTY)), [(0, "(module)\n")])
+
+    def test_no_memory(self):
+        for longest, function in ((0, wasmprinter.print_bytes), (0, wasmprinter.print_lines), (20, wasmprinter.print_lines)):
+            with self.failing(longest), self.assertRaises(wasmprinter.OutOfMemory):
+                function(EMPTY)
+
+
+class Files(unittest.TestCase):
+    def test_files(self):
+        with tempfile.TemporaryDirectory() as folder:
+            path = pathlib.Path(folder, "module.wasm")
+            path.write_bytes(ONE_TYPE)
+            for name in (path, str(path), os.fsencode(path)):
+                self.assertEqual(wasmprinter.print_file(name), "(module\n  (type (;0;) (func))\n)\n")
+            self.assertEqual(wasmprinter.print_file(path, indent=0), "(module\n(type (;0;) (func))\n)\n")
+            path.write_bytes(b"(module)")
+            with self.assertRaises(wasmprinter.Malformed):
+                wasmprinter.print_file(path)
+            with self.assertRaises(FileNotFoundError):
+                wasmprinter.print_file(pathlib.Path(folder, "missing.wasm"))
+            with self.assertRaises(IsADirectoryError):
+                wasmprinter.print_file(folder)
+
+    def test_no_path(self):
+        with self.assertRaises(TypeError):
+            wasmprinter.print_file(0)
+
+
+class Library(unittest.TestCase):
+    def import_with(self, library):
+        """Imports the package with another library in a new process, and returns the last line of its standard error."""
+        environment = {
+            **os.environ,
+            "PYTHONPATH": str(pathlib.Path(wasmprinter.__file__).resolve().parent.parent),
+            "WASMPRINTER_SO": library,
+        }
+        command = [sys.executable, "-B", "-c", "import wasmprinter"]
+        ended = subprocess.run(command, env=environment, stderr=subprocess.PIPE, universal_newlines=True)
+        self.assertEqual(ended.returncode, 1)
+        return ended.stderr.strip().split("\n")[-1]
+
+    def test_missing_library(self):
+        message = self.import_with("/nowhere/libwasmprinter.so")
+        self.assertRegex(message, r"^ImportError: .*/nowhere/libwasmprinter\.so.*tools/install\.sh.*WASMPRINTER_SO")
+
+    def test_another_library(self):
+        message = self.import_with("libc.so.6")
+        self.assertRegex(message, r"^ImportError: libc\.so\.6 is not libwasmprinter.*tools/install\.sh.*WASMPRINTER_SO")
+
+    def test_names_of_the_library(self):
+        with unittest.mock.patch.object(wasmprinter.ctypes, "CDLL", side_effect=OSError("missing")) as load:
+            with unittest.mock.patch.dict(os.environ, {"WASMPRINTER_SO": ""}), self.assertRaises(ImportError):
+                wasmprinter._load()
+        self.assertEqual([call[0][0] for call in load.call_args_list], ["libwasmprinter.so.1", "libwasmprinter.so"])
+
+    def test_version(self):
+        self.assertEqual(wasmprinter.version(), (0, 263, 0))
+        self.assertEqual(wasmprinter.revision(), 1)
+        self.assertEqual(wasmprinter.__version__, "0.263.0.post1")
+
+    def test_threads(self):
+        texts = []
+        threads = [threading.Thread(target=lambda: texts.append(wasmprinter.print_bytes(EMPTY))) for _ in range(8)]
+        for thread in threads:
+            thread.start()
+        for thread in threads:
+            thread.join()
+        self.assertEqual(texts, ["(module)\n"] * 8)
+
+
+class Others(unittest.TestCase):
     def test_empty_input(self):
         with self.assertRaises(wasmprinter.Malformed):
             wasmprinter.print_bytes(b"")
@@ -107,20 +336,14 @@ class Others(unittest.TestCase):
             with self.assertRaises(TypeError):
                 wasmprinter.print_bytes(data)
 
-    def test_indent_with_a_zero_byte(self):
-        self.assertEqual(wasmprinter.print_bytes(ONE_TYPE, indent="\0é"), "(module\n\0é(type (;0;) (func))\n)\n")
+    def test_examples(self):
+        readme = pathlib.Path(__file__).resolve().with_name("README.md")
+        self.assertEqual(doctest.testmod(wasmprinter), (0, 1))
+        self.assertEqual(doctest.testfile(str(readme), module_relative=False, encoding="utf-8"), (0, 4))
 
-    def test_version(self):
-        self.assertEqual(wasmprinter.version(), (0, 263, 0))
-
-    def test_threads(self):
-        texts = []
-        threads = [threading.Thread(target=lambda: texts.append(wasmprinter.print_bytes(EMPTY))) for _ in range(8)]
-        for thread in threads:
-            thread.start()
-        for thread in threads:
-            thread.join()
-        self.assertEqual(texts, ["(module)\n"] * 8)
+    def test_names(self):
+        for name in wasmprinter.__all__:
+            self.assertTrue(hasattr(wasmprinter, name), name)
 
 
 if __name__ == "__main__":

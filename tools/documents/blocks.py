@@ -8,13 +8,20 @@ ROWS = "crates/check_rows/data/"
 SOURCES = {
     "README.md": (ROWS + "modules_names.txt", ROWS + "fold_modules.txt"),
     "docs/LIBRARY.md": ("crates/tests_modules/src/example.rt", "tools/program.sh"),
-    "bindings/README.md": ("bindings/c/example.c",),
+    "bindings/README.md": (
+        "bindings/c/example.c",
+        "bindings/c/preview.c",
+        "bindings/cpp/example.cpp",
+        "bindings/rust/README.md",
+        "bindings/python/README.md",
+        "tools/packaging/CMakeLists.txt",
+    ),
     "CONTRIBUTING.md": ("crates/wasmprinter_flat/src/indices.rt", "crates/wasmprinter_custom/must-fail/identifier-is-the-raw-name.edit"),
 }
 MESSAGES = ("bindings/cases.txt", "bindings/c/test.c", "tools/program.sh", "crates/printwasm/src/program_tests.rt")  # tests with typed messages
 
 PROVES = "proves, tests or builds, as the gate does"
-INSTALLS = "needs or changes the user's folders. tools/install.sh is run by hand (docs/TESTING.md)"
+INSTALLS = "needs or changes the user's folders. tools/packaging.sh is run by hand (docs/TESTING.md)"
 STEP = "a step of the gate"
 # Commands, each with the reason why no test compares its output
 COMMANDS = {
@@ -23,6 +30,8 @@ COMMANDS = {
     "install -D crates/printwasm/out/printwasm ~/.local/bin/printwasm": INSTALLS,
     "rt ci": PROVES,
     "sh tools/install.sh ~/.local": INSTALLS,
+    "sh tools/install.sh build /tmp/built": PROVES,
+    "sudo sh tools/install.sh install /tmp/built /usr/local": INSTALLS,
     "export PKG_CONFIG_PATH=~/.local/lib/pkgconfig": INSTALLS,
     "cc bindings/c/example.c $(pkg-config --cflags --libs wasmprinter) -Wl,-rpath,$HOME/.local/lib -o example": INSTALLS,
     "rt try --test": PROVES,

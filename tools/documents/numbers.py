@@ -17,12 +17,13 @@ NUMBER = rf"(?P<number>\d[\d,]*(?<!,)|(?i:{'|'.join(WORDS)}))"
 
 # Patterns of sentences about the statuses of the library for C, by their names in the header
 STATUSES = {
-    "COMPONENT": (r"component \(status #\)", "status is # exactly for a component"),
+    "COMPONENT": (r"component \(status #\)", "status is # exactly if the bytes are marked as a component"),
     "DYLINK_SUBSECTION": (r"^\| #, `dylink.0` \|",),
     "UNREADABLE": (r"^Status # \(the file",),
     "TOO_LONG": (r"^\| #, too long",),
     "MEMORY": (r"^\| #, out of memory", r"\| status # \(", "Status # may also", "the status is #, and the buffer is unchanged"),
     "INVALID_INDENT": (r"^\| #, the indent", r"not UTF-8 \(#\)", "It is # exactly if the indent", "status except #", "statuses 0 and #"),
+    "UNKNOWN_OPTION": (r"^\| #, unknown options", "status is # exactly if the flags", r"status is not # \|", r"unknown bit \(#\)", "older library returns status #"),
 }
 
 
@@ -45,20 +46,14 @@ def of_checks(tree):
     return [
         ("# mutants, deliberately", gate),
         (r"^\| \[Mutants\]\S* \| #, and", gate),
-        ("gate tries these #:", gate),
         (r"^\| \[Mutants\].*, and # others", others),
-        ("tries the # others", others),
-        ("all # apply", gate + others),
         ("# files of definitions that the checker", len(tree.matching("crates/wasmprinter_spec/proofs/*Rows.antt"))),
         (r"# tests; \d", tests(tree)),
         (r"^\| ((?:`\w+`(?:, )?)+) \| # \|", lambda match: sum(tests(tree, crate) for crate in re.findall(r"\w+", match.group(1)))),
         ("# runs of the program", runs),
-        ("built program # times", runs),
         ("# shapes of modules, ", refused),
-        ("modules of # shapes, lets", refused),
         ("(?:, |for )# names", names_of_refusals(tree)),
         (r"# shapes of modules \|", shapes),
-        ("modules of # shapes, among", shapes),
         ("all # shapes", shapes),
         ("0 to # bytes", tree.first(r"TEXT_LENGTHS: .*\[\(0, (\d+)\)", "crates/printwasm/src/io_tests.rt")),
         ("an indent of # bytes fail", len(tree.first('^#define INDENT "( *)"', "bindings/c/memory.c"))),
@@ -70,12 +65,10 @@ def of_rows(tree):
     rows, bindings = len(tree.found("^(?:row|operator|node) ", ROWS + "*.txt")), len(tree.found("^case ", "bindings/cases.txt"))
     return [
         (r"^\| \[Rows of files\]\S* \| # modules; ", rows),
-        ("rows of .* files, # in all", rows),
         ("functions for # rows", rows),
         ("rows of # files", len(tree.matching(ROWS + "*.txt"))),
         ("`check_rows` has # functions", len(tree.found(r"^ *(?:pub(?:\(crate\))? )?fn ", "crates/check_rows/src/*.rt"))),
         (r"^\| \[Rows of files\].*; # in", bindings),
-        (r"`bindings/cases\.txt` has #", bindings),
     ]
 
 
@@ -102,9 +95,10 @@ def of_library(tree):
     """Returns the numbers of the library for C: its functions, its version and its statuses."""
     statuses = dict(tree.found(r"WASMPRINTER_(\w+) = (\d+)", HEADER))
     return [
-        ("(?:its|the|has) # functions(?: only|, )", len(tree.found(r"^(?!static)\w.* wasmprinter_\w+\(", HEADER))),
-        ("first # the header has inline wrappers", len(tree.found(r"^static inline \w+ wasmprinter_\w+\(", HEADER))),
-        ("result is #", tree.first(r"WASMPRINTER_VERSION (\d+)", HEADER)),
+        ("(?:its|the|has) # functions(?: only|, )", len(tree.found(r"^(?!WASMPRINTER_INLINE)\w.* wasmprinter_\w+\(", HEADER))),
+        ("header also has # inline functions", len(tree.found(r"^WASMPRINTER_INLINE .*wasmprinter_\w+\(", HEADER))),
+        (r"`wasmprinter_version` \| \| The result is #", tree.first(r"WASMPRINTER_VERSION (\d+)", HEADER)),
+        (r"`wasmprinter_revision` \| \| The result is #", tree.first(r"WASMPRINTER_REVISION (\d+)", HEADER)),
     ] + [(pattern, statuses[name]) for name, patterns in STATUSES.items() for pattern in patterns]
 
 
@@ -116,7 +110,7 @@ def items(tree, page, heading):
 def of_definitions(tree):
     """Returns the numbers that definitions give: opcodes, limits, levels and colors."""
     specs = "crates/wasmprinter_spec/specs/*.antt"
-    words = tree.found(r'Some\(\("([^"]+)"', "crates/wasmprinter_ops/src/tables/*.rt")
+    words = tree.found(r'Some\(\("([^"]+)"', "crates/wasmprinter_ops/src/opcode_tables/*.rt")
     functions, levels = tree.defined("most_functions", specs), tree.defined("most_indents", specs)
     colors, styles = tree.first(r"^colors = (.*)∷ \[\]", specs).count("∷") + 1, len(tree.found(r"^  \w+ : Style$", specs))
     return [

@@ -1,16 +1,21 @@
 //! Prints WebAssembly modules, from the binary format to the text format.
 //!
-//! The names are those of the crate `wasmprinter`: [`print_bytes`], [`Config`] and [`Error`]. The printer itself is the proved library
-//! `wasmprinter_c`, which this crate links. It has no other dependency.
+//! The names are those of the crate `wasmprinter`: [`print_bytes`], [`print_file`], [`Config`] and [`Error`]. The printer itself is the
+//! proved library `libwasmprinter`, which the crate `wasmprinter-proved-sys` links. There are no other dependencies.
 //!
 //! ```
 //! let text = wasmprinter::print_bytes(b"\0asm\x01\0\0\0")?;
 //! assert_eq!(text, "(module)\n");
 //! # Ok::<(), wasmprinter::Error>(())
 //! ```
+#![deny(missing_docs, clippy::undocumented_unsafe_blocks)]
 
 mod error;
-mod raw;
+
+use std::io;
+use std::mem::MaybeUninit;
+use std::path::Path;
+use wasmprinter_proved_sys as sys;
 
 pub use error::Error;
 
@@ -26,10 +31,28 @@ pub fn print_bytes(wasm: impl AsRef<[u8]>) -> Result<String> {
     Config::new().print_to_string(wasm)
 }
 
+/// Prints the module in a file with the defaults of [`Config`].
+///
+/// # Errors
+///
+/// - [`Error::Unreadable`]: the file can't be read.
+/// - The errors of [`Config::print_to_string`].
+pub fn print_file(path: impl AsRef<Path>) -> Result<String> {
+    let wasm = std::fs::read(path).map_err(|_| Error::Unreadable)?;
+    print_bytes(wasm)
+}
+
 /// The options of printing.
+///
+/// ```
+/// let wasm = b"\0asm\x01\0\0\0\x01\x04\x01\x60\0\0";
+/// let text = wasmprinter::Config::new().indent_text("\t").print_to_string(wasm)?;
+/// assert_eq!(text, "(module\n\t(type (;0;) (func))\n)\n");
+/// # Ok::<(), wasmprinter::Error>(())
+/// ```
 #[derive(Clone, Debug)]
 pub struct Config {
-    options: raw::Options,
+    flags: u32,
     indent: String,
 }
 
@@ -39,43 +62,33 @@ impl Default for Config {
     }
 }
 
-/// The length of a text in bytes, and the number of its lines.
-struct Extent {
-    length: usize,
-    count: usize,
-}
-
 impl Config {
     /// Returns the defaults: every option is off, and the indent is two spaces.
     pub fn new() -> Config {
         Config {
-            options: raw::Options::default(),
+            flags: 0,
             indent: "  ".to_owned(),
         }
     }
 
     /// Chooses whether each line after the first begins with its place.
     pub fn print_offsets(&mut self, print: bool) -> &mut Self {
-        self.options.offsets = print;
-        self
+        self.choose(sys::WASMPRINTER_OFFSETS, print)
     }
 
     /// Chooses whether bodies, items of element segments, and bytes of data segments and custom sections are left out.
     pub fn print_skeleton(&mut self, print: bool) -> &mut Self {
-        self.options.skeleton = print;
-        self
+        self.choose(sys::WASMPRINTER_SKELETON, print)
     }
 
     /// Chooses whether identifiers are synthesized for items without a name.
     pub fn name_unnamed(&mut self, name: bool) -> &mut Self {
-        self.options.name_unnamed = name;
-        self
+        self.choose(sys::WASMPRINTER_NAME_UNNAMED, name)
     }
 
     /// Chooses whether each operator is in parentheses with its operands.
     pub fn fold_instructions(&mut self, fold: bool) -> &mut Self {
-        self.options.fold = fold;
-        self
+        self.choose(sys::WASMPRINTER_FOLD, fold)
     }
 
     /// Sets the text of one level of nesting.
@@ -84,13 +97,41 @@ impl Config {
         self
     }
 
+    /// Sets or clears a bit of the flags.
+    fn choose(&mut self, bit: u32, is_chosen: bool) -> &mut Self {
+        self.flags = if is_chosen {
+            self.flags | bit
+        } else {
+            self.flags & !bit
+        };
+        self
+    }
+
     /// Prints a module.
     ///
     /// # Errors
     ///
-    /// Each variant of [`Error`]. [`Error::FoldLegacy`] and [`Error::FoldHint`] only if operators are folded.
+    /// Each variant of [`Error`] except [`Error::Unreadable`]. [`Error::FoldLegacy`] and [`Error::FoldHint`] only if operators are folded.
     pub fn print_to_string(&self, wasm: impl AsRef<[u8]>) -> Result<String> {
-        Ok(self.print_whole(wasm.as_ref(), false)?.0)
+        let (mut text, _) = self.print_whole(wasm.as_ref(), false)?;
+        text.shrink_to_fit();
+        Ok(text)
+    }
+
+    /// Prints a module to a writer. The whole text is in memory before the first byte is written.
+    ///
+    /// ```
+    /// let wasm = b"\0asm\x01\0\0\0";
+    /// wasmprinter::Config::new().print_to(wasm, &mut std::io::stdout())?;
+    /// # Ok::<(), std::io::Error>(())
+    /// ```
+    ///
+    /// # Errors
+    ///
+    /// - The errors of the writer.
+    /// - The errors of [`Config::print_to_string`], converted to an [`io::Error`]. Then nothing was written.
+    pub fn print_to(&self, wasm: &[u8], out: &mut impl io::Write) -> io::Result<()> {
+        out.write_all(self.print_to_string(wasm)?.as_bytes())
     }
 
     /// Appends the text of a module to `storage`, and returns an iterator over its lines. Each item is the place of a line, or `None` if it
@@ -114,8 +155,12 @@ impl Config {
     ) -> Result<impl Iterator<Item = (Option<u64>, &'a str)> + 'a> {
         let (text, lines) = self.print_whole(wasm, true)?;
         let before = storage.len();
-        storage.try_reserve(text.len()).map_err(|_| Error::Memory)?;
-        storage.push_str(&text);
+        if before == 0 {
+            *storage = text;
+        } else {
+            storage.try_reserve(text.len()).map_err(|_| Error::Memory)?;
+            storage.push_str(&text);
+        }
         let text = &storage[before..];
         let mut lines = lines.into_iter().peekable();
         Ok(std::iter::from_fn(move || {
@@ -133,66 +178,94 @@ impl Config {
     ///
     /// The errors of [`Config::print_to_string`]. After an error `out` may hold a prefix of the text.
     pub fn print_over(&self, wasm: &[u8], out: &mut [u8]) -> Result<usize> {
+        // SAFETY: the types have the same layout, and `print` writes only initialised bytes.
+        let out = unsafe { &mut *(out as *mut [u8] as *mut [MaybeUninit<u8>]) };
         Ok(self.print(wasm, out, &mut [])?.length)
     }
 
-    /// Returns the text, and the table of its lines if it is needed. The first round measures, the second one prints.
-    fn print_whole(&self, wasm: &[u8], with_lines: bool) -> Result<(String, Vec<raw::Line>)> {
+    /// Returns the text, and the table of its lines if it is needed.
+    ///
+    /// Nearly every module is printed once. It is printed again if its text or its table is longer than expected, or if there is not enough
+    /// memory for the expected lengths.
+    fn print_whole(
+        &self,
+        wasm: &[u8],
+        with_lines: bool,
+    ) -> Result<(String, Vec<sys::WasmprinterLine>)> {
+        // Most texts have less than 12 bytes for each byte of the module, and more than 16 bytes in a line. Pages of an allocation that are
+        // not written to take no memory.
+        let expected = wasm.len().saturating_mul(12).saturating_add(4096);
+        let expected_lines = if with_lines { expected / 16 + 64 } else { 0 };
         let (mut text, mut lines) = (Vec::new(), Vec::new());
+        // If one of these allocations fails, the first round only measures.
+        let _ = text.try_reserve_exact(expected);
+        let _ = lines.try_reserve_exact(expected_lines);
         loop {
-            let extent = self.print(wasm, &mut text, &mut lines)?;
-            let count = if with_lines { extent.count } else { 0 };
-            let fits = extent.length <= text.len() && count <= lines.len();
-            resize(&mut text, extent.length)?;
-            resize(&mut lines, count)?;
-            if fits {
+            let printed =
+                self.print(wasm, text.spare_capacity_mut(), lines.spare_capacity_mut())?;
+            let count = if with_lines { printed.count } else { 0 };
+            if printed.length <= text.capacity() && count <= lines.capacity() {
+                // SAFETY: this many bytes and lines fit, so the library has written all of them.
+                unsafe {
+                    text.set_len(printed.length);
+                    lines.set_len(count);
+                }
                 let text = String::from_utf8(text).expect("the text is UTF-8");
                 return Ok((text, lines));
             }
+            text.try_reserve_exact(printed.length)
+                .and_then(|()| lines.try_reserve_exact(count))
+                .map_err(|_| Error::Memory)?;
         }
     }
 
-    /// Writes as much of the text and of the table of its lines as fits, and returns the size of the whole text and table.
-    fn print(&self, wasm: &[u8], out: &mut [u8], lines: &mut [raw::Line]) -> Result<Extent> {
-        let (mut length, mut count, mut detail) = (0, 0, 0);
-        // SAFETY: each pointer and length comes from a reference that is valid during the call. The library writes only through mutable
-        // references, so they overlap nothing. The library requires nothing else.
+    /// Writes as much of the text and of the table of its lines as fits, and returns the lengths of the whole text and table.
+    fn print(
+        &self,
+        wasm: &[u8],
+        out: &mut [MaybeUninit<u8>],
+        lines: &mut [MaybeUninit<sys::WasmprinterLine>],
+    ) -> Result<sys::WasmprinterResult> {
+        let mut result = sys::WasmprinterResult::default();
+        // SAFETY: each pointer and length comes from a reference that is valid during the call, so no pointer is null. The library writes only
+        // through mutable references, so they overlap nothing, and it reads neither `out` nor `lines`.
         let status = unsafe {
-            raw::wasmprinter_print_lines(
+            sys::wasmprinter_raw_print(
                 wasm.as_ptr(),
                 wasm.len(),
-                &self.options,
+                self.flags,
                 self.indent.as_ptr(),
                 self.indent.len(),
-                out.as_mut_ptr(),
+                out.as_mut_ptr().cast(),
                 out.len(),
-                lines.as_mut_ptr(),
+                lines.as_mut_ptr().cast(),
                 lines.len(),
-                &mut length,
-                &mut count,
-                &mut detail,
+                &mut result,
             )
         };
         match status {
-            raw::OK => Ok(Extent { length, count }),
-            _ => Err(Error::of(status, detail)),
+            sys::WASMPRINTER_OK => Ok(result),
+            _ => Err(Error::of(status, result.detail)),
         }
     }
-}
-
-/// Sets the length of a buffer. Returns [`Error::Memory`] if an allocation fails.
-fn resize<T: Clone + Default>(buffer: &mut Vec<T>, len: usize) -> Result<()> {
-    let more = len.saturating_sub(buffer.len());
-    buffer.try_reserve_exact(more).map_err(|_| Error::Memory)?;
-    buffer.resize(len, T::default());
-    Ok(())
 }
 
 /// Returns the version of the library: the major, the minor and the patch number.
 pub fn version() -> (u32, u32, u32) {
     const MAJOR: u32 = 1_000_000;
     const MINOR: u32 = 1_000;
-    // SAFETY: the function has no parameters.
-    let version = unsafe { raw::wasmprinter_version() };
+    // SAFETY: the function has no requirements.
+    let version = unsafe { sys::wasmprinter_version() };
     (version / MAJOR, version % MAJOR / MINOR, version % MINOR)
 }
+
+/// Returns the number N of the release 0.263.0-rN of the library.
+pub fn revision() -> u32 {
+    // SAFETY: the function has no requirements.
+    unsafe { sys::wasmprinter_revision() }
+}
+
+/// The example of the page for users.
+#[cfg(doctest)]
+#[doc = include_str!("../README.md")]
+struct Readme;

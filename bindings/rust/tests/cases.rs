@@ -1,6 +1,6 @@
-//! Checks every case of `bindings/cases.txt`.
+//! Checks every case of `bindings/cases.txt`. The package leaves this file out, and `printing.rs` has tests that need no file.
 
-use wasmprinter::{print_bytes, version, Config, Error};
+use wasmprinter::Config;
 
 const CASES: &str = include_str!("../../cases.txt");
 
@@ -153,52 +153,4 @@ fn prints_each_case() {
     }
     assert!(cases.len() > 20);
     cases.iter().for_each(Case::check);
-}
-
-#[test]
-fn describes_errors_that_no_case_has() {
-    assert_eq!(Error::TooLong.to_string(), "the text is too long");
-    assert_eq!(Error::Memory.to_string(), "out of memory");
-}
-
-#[test]
-fn prints_empty_input() {
-    assert!(matches!(print_bytes([]), Err(Error::Malformed { .. })));
-}
-
-#[test]
-fn prints_an_indent_with_a_zero_byte() {
-    let wasm = b"\0asm\x01\0\0\0\x01\x04\x01\x60\0\0";
-    let text = Config::new().indent_text("\0é").print_to_string(wasm);
-    assert_eq!(text.as_deref(), Ok("(module\n\0é(type (;0;) (func))\n)\n"));
-}
-
-/// The lines outlive the bytes of the module.
-#[test]
-fn keeps_lines_without_the_module() {
-    let mut storage = String::new();
-    let wasm = b"\0asm\x01\0\0\0".to_vec();
-    let mut lines = Config::new()
-        .offsets_and_lines(&wasm, &mut storage)
-        .expect("lines");
-    drop(wasm);
-    assert_eq!(lines.next(), Some((Some(0), "(module)\n")));
-    assert_eq!(lines.next(), None);
-}
-
-#[test]
-fn returns_this_version() {
-    assert_eq!(version(), (0, 263, 0));
-}
-
-/// Several threads print the same module at once.
-#[test]
-fn prints_in_threads() {
-    let wasm = b"\0asm\x01\0\0\0";
-    let printed: Vec<_> = (0..8)
-        .map(|_| std::thread::spawn(move || print_bytes(wasm)))
-        .collect();
-    for text in printed {
-        assert_eq!(text.join().expect("a thread").as_deref(), Ok("(module)\n"));
-    }
 }

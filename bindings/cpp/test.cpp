@@ -1,0 +1,395 @@
+// test FILE: checks every case of bindings/cases.txt with wasmprinter.hpp, and calls that no case describes. Prints each difference and the
+// counts; the status is 1 if there is a difference. Linked with --wrap=malloc, --wrap=realloc and --wrap=free, so that all allocations are
+// counted and can fail.
+#include "wasmprinter.hpp"
+
+#include <cstdlib>
+#include <exception>
+#include <fstream>
+#include <iostream>
+#include <iterator>
+#include <map>
+#include <new>
+#include <optional>
+#include <sstream>
+#include <string>
+#include <string_view>
+#include <utility>
+#include <vector>
+#if __cplusplus >= 202002L
+#include <ranges>
+#include <span>
+
+static_assert(std::ranges::input_range<wasmprinter::Lines>);
+#endif
+
+using namespace std::literals;
+using wasmprinter::Error;
+using wasmprinter::Lines;
+using wasmprinter::Options;
+
+// ---- Allocations
+
+// The number of blocks that are not freed yet.
+static long live = 0;
+
+// The allocations that fail: none, one, or one and all after it.
+enum class Failing { none, once, always };
+static Failing failing = Failing::none;
+static unsigned allowed = 0; // the number of allocations that succeed before one fails
+static unsigned refused = 0; // the number of allocations that failed
+
+static bool is_allowed() {
+    if (failing == Failing::none || (failing == Failing::once && refused > 0)) {
+        return true;
+    }
+    if (allowed > 0) {
+        allowed--;
+        return true;
+    }
+    refused++;
+    return false;
+}
+
+extern "C" {
+void *__real_malloc(std::size_t size);
+void *__real_realloc(void *old, std::size_t size);
+void __real_free(void *old);
+
+void *__wrap_malloc(std::size_t size) {
+    void *block = is_allowed() ? __real_malloc(size) : nullptr;
+    live += block != nullptr;
+    return block;
+}
+
+void *__wrap_realloc(void *old, std::size_t size) {
+    if (old == nullptr) {
+        return __wrap_malloc(size);
+    }
+    return is_allowed() ? __real_realloc(old, size) : nullptr;
+}
+
+void __wrap_free(void *old) {
+    live -= old != nullptr;
+    __real_free(old);
+}
+}
+
+void *operator new(std::size_t size) {
+    void *block = __wrap_malloc(size);
+    if (block == nullptr) {
+        throw std::bad_alloc();
+    }
+    return block;
+}
+
+void operator delete(void *block) noexcept { __wrap_free(block); }
+void operator delete(void *block, std::size_t) noexcept { __wrap_free(block); }
+
+// ---- Cases
+
+// A case: the input and the expected results.
+struct Case {
+    std::string title;
+    Options options;
+    std::string indent = "  ";
+    std::string wasm;
+    bool has_places = false;
+    std::string text;
+    std::vector<std::pair<std::optional<std::uint64_t>, std::string>> lines;
+    WasmprinterStatus status = WASMPRINTER_OK;
+    std::uint64_t detail = 0;
+    std::string error;
+};
+
+// The names of the errors in the file of cases.
+static const std::map<std::string, WasmprinterStatus> ERRORS = {
+    {"Malformed", WASMPRINTER_MALFORMED},
+    {"Component", WASMPRINTER_COMPONENT},
+    {"TooManyLocals", WASMPRINTER_TOO_MANY_LOCALS},
+    {"TooManyFunctions", WASMPRINTER_TOO_MANY_FUNCTIONS},
+    {"EmptyTableInit", WASMPRINTER_EMPTY_TABLE_INIT},
+    {"FoldLegacy", WASMPRINTER_FOLD_LEGACY},
+    {"FoldHint", WASMPRINTER_FOLD_HINT},
+    {"DylinkSubsection", WASMPRINTER_DYLINK_SUBSECTION},
+    {"InvalidIndent", WASMPRINTER_INVALID_INDENT},
+};
+
+// The options of the words in the file of cases.
+static const std::map<std::string, bool Options::*> OPTIONS = {
+    {"offsets", &Options::offsets},
+    {"skeleton", &Options::skeleton},
+    {"name_unnamed", &Options::name_unnamed},
+    {"fold", &Options::fold},
+};
+
+// Reads bytes in hexadecimal.
+static std::string read_bytes(std::istream &words) {
+    std::string bytes;
+    unsigned byte = 0;
+    while (words >> std::hex >> byte) {
+        bytes += static_cast<char>(byte);
+    }
+    return bytes;
+}
+
+static void read_options(std::istream &words, Options &options) {
+    std::string word;
+    while (words >> word) {
+        options.*OPTIONS.at(word) = true;
+    }
+}
+
+static void read_error(std::istream &words, Case &test_case) {
+    std::string name;
+    words >> name >> test_case.detail >> std::ws;
+    std::getline(words, test_case.error);
+    test_case.status = ERRORS.at(name);
+}
+
+// Reads a line of the text, with its place.
+static void read_text(const std::string &line, Case &test_case) {
+    const std::size_t bar = line.find('|');
+    const std::string text = line.substr(bar + 1) + '\n';
+    std::optional<std::uint64_t> place;
+    if (bar > 0) {
+        place = std::stoull(line.substr(0, bar), nullptr, 16);
+    }
+    test_case.text += text;
+    test_case.lines.emplace_back(place, text);
+}
+
+// Reads a line of a case.
+static void read_line(const std::string &line, Case &test_case) {
+    std::istringstream words(line);
+    std::string key;
+    std::getline(words, key, ' ');
+    if (key == "set") {
+        read_options(words, test_case.options);
+    } else if (key == "indent") {
+        test_case.indent = read_bytes(words);
+    } else if (key == "wasm") {
+        test_case.wasm += read_bytes(words);
+    } else if (key == "zeros") {
+        test_case.wasm += std::string(std::stoul(line.substr(key.size())), '\0');
+    } else if (key == "places") {
+        test_case.has_places = true;
+    } else if (key == "error") {
+        read_error(words, test_case);
+    } else if (key != "left") {
+        read_text(line, test_case);
+    }
+}
+
+// Reads a file of cases.
+static std::vector<Case> read_cases(const char *path) {
+    std::ifstream file(path);
+    std::vector<Case> cases;
+    for (std::string line; std::getline(file, line);) {
+        if (line.rfind("case ", 0) == 0) {
+            cases.emplace_back().title = line;
+        } else if (!line.empty() && line[0] != '#') {
+            read_line(line, cases.at(cases.size() - 1));
+        }
+    }
+    return cases;
+}
+
+// ---- Checks
+
+static unsigned failed = 0;
+
+// Prints a message if a result is wrong.
+static void expect(bool is_right, std::string_view title, std::string_view what) {
+    if (!is_right) {
+        std::cout << "wasmprinter.hpp: " << title << ": wrong " << what << '\n';
+        failed++;
+    }
+}
+
+// Checks that a call throws the error of a case, and that nothing stays allocated.
+template <typename Call> static void expect_error(const Case &test_case, Call call) {
+    const long before = live;
+    try {
+        call();
+        expect(false, test_case.title, "success");
+    } catch (const Error &error) {
+        expect(error.status() == test_case.status, test_case.title, "status");
+        expect(error.detail() == test_case.detail, test_case.title, "detail");
+        expect(error.what() == test_case.error, test_case.title, "description");
+    }
+    expect(live == before, test_case.title, "number of blocks that are not freed");
+}
+
+// Checks the lines of a case.
+static void expect_lines(const Case &test_case, const Lines &lines) {
+    std::size_t index = 0;
+    expect(lines.text() == test_case.text, test_case.title, "text of the lines");
+    expect(lines.size() == test_case.lines.size() && !lines.empty(), test_case.title, "number of lines");
+    for (const wasmprinter::Line line : lines) {
+        if (index < test_case.lines.size()) {
+            const auto &[place, text] = test_case.lines[index];
+            expect(line.text == text && lines[index].text == text, test_case.title, "line");
+            expect(!test_case.has_places || (line.place == place && lines[index].place == place), test_case.title, "place");
+        }
+        index++;
+    }
+    expect(index == lines.size() && std::next(lines.begin(), lines.size()) == lines.end(), test_case.title, "end of the lines");
+}
+
+static void check(const Case &test_case) {
+    Options options = test_case.options;
+    options.indent = test_case.indent;
+    if (test_case.status != WASMPRINTER_OK) {
+        expect_error(test_case, [&] { return wasmprinter::print(test_case.wasm, options); });
+        expect_error(test_case, [&] { return wasmprinter::print_lines(test_case.wasm, options); });
+        return;
+    }
+    expect(wasmprinter::print(test_case.wasm, options) == test_case.text, test_case.title, "text");
+    expect_lines(test_case, wasmprinter::print_lines(test_case.wasm, options));
+}
+
+// A module with a type, and its text.
+static constexpr std::string_view ONE_TYPE = "\0asm\1\0\0\0\1\4\1\x60\0\0"sv;
+static constexpr std::string_view ONE_TYPE_TEXT = "(module\n  (type (;0;) (func))\n)\n";
+
+// Returns a case that prints a module as these lines.
+static Case printed(std::string_view title, std::string_view wasm, const std::vector<std::string> &lines) {
+    Case test_case;
+    test_case.title = title;
+    test_case.wasm = wasm;
+    for (const std::string &line : lines) {
+        read_text('|' + line, test_case);
+    }
+    return test_case;
+}
+
+static Case one_type() { return printed("one type", ONE_TYPE, {"(module", "  (type (;0;) (func))", ")"}); }
+
+// Prints other types of bytes.
+static void check_other_bytes() {
+    const auto *bytes = reinterpret_cast<const std::uint8_t *>(ONE_TYPE.data());
+    expect(wasmprinter::print(bytes, ONE_TYPE.size()) == ONE_TYPE_TEXT, "a pointer and a length", "text");
+    expect_lines(one_type(), wasmprinter::print_lines(bytes, ONE_TYPE.size()));
+    const std::vector<std::uint8_t> numbers(bytes, bytes + ONE_TYPE.size());
+    expect(wasmprinter::print(numbers) == ONE_TYPE_TEXT, "a vector of numbers", "text");
+    expect_lines(one_type(), wasmprinter::print_lines(numbers));
+    expect(wasmprinter::print(std::string(ONE_TYPE)) == ONE_TYPE_TEXT, "a string", "text");
+#ifdef __cpp_lib_span
+    const auto span = std::as_bytes(std::span(ONE_TYPE));
+    expect(wasmprinter::print(span) == ONE_TYPE_TEXT, "a span", "text");
+    expect_lines(one_type(), wasmprinter::print_lines(span));
+#endif
+}
+
+static void check_empty_input() {
+    Case test_case;
+    test_case.title = "no bytes";
+    test_case.status = WASMPRINTER_MALFORMED;
+    test_case.error = "malformed module at byte 0x0";
+    expect_error(test_case, [] { return wasmprinter::print(std::string_view()); });
+    expect_error(test_case, [] { return wasmprinter::print(""); });
+    expect_error(test_case, [] { return wasmprinter::print(nullptr, 0); });
+    expect_error(test_case, [] { return wasmprinter::print_lines(std::string_view()); });
+}
+
+// An empty indent is not the default, even if its pointer is null. An indent may hold a zero byte.
+static void check_indents() {
+    Options options;
+    options.indent = std::string_view();
+    expect(wasmprinter::print(ONE_TYPE, options) == "(module\n(type (;0;) (func))\n)\n", "an indent that is null", "text");
+    options.indent = "\0\t"sv;
+    expect(wasmprinter::print(ONE_TYPE, options) == "(module\n\0\t(type (;0;) (func))\n)\n"sv, "an indent with a zero byte", "text");
+}
+
+// Prints a text that is longer than expected.
+static void check_long_text() {
+    const std::string indent(10000, ' ');
+    Case test_case = printed("a long indent", ONE_TYPE, {"(module", indent + "(type (;0;) (func))", ")"});
+    test_case.indent = indent;
+    check(test_case);
+}
+
+// Prints more lines than expected: those of a function with 200 `nop` operators. The bodies have 205 bytes, the only one of them 202.
+static void check_many_lines() {
+    std::string wasm = "\0asm\1\0\0\0\1\4\1\x60\0\0\3\2\1\0\x0a\xcd\1\1\xca\1\0"s;
+    std::vector<std::string> lines = {"(module", "  (type (;0;) (func))", "  (func (;0;) (type 0)"};
+    for (int i = 0; i < 200; i++) {
+        wasm += '\1';
+        lines.emplace_back("    nop");
+    }
+    wasm += '\x0b';
+    lines.emplace_back("  )");
+    lines.emplace_back(")");
+    check(printed("many lines", wasm, lines));
+}
+
+// Copies and moves lines.
+static void check_copies() {
+    Lines lines = wasmprinter::print_lines(ONE_TYPE);
+    const Lines copy = lines;
+    const Lines moved = std::move(lines);
+    expect_lines(one_type(), copy);
+    expect_lines(one_type(), moved);
+    lines = copy;
+    expect_lines(one_type(), lines);
+}
+
+// Makes a call with failing allocations. Returns whether it threw std::bad_alloc. If it returned, it must return true.
+template <typename Call> static bool throws(std::string_view title, Failing way, unsigned successes, Call call) {
+    const long before = live;
+    bool is_right = true, is_thrown = false;
+    refused = 0;
+    allowed = successes;
+    failing = way;
+    try {
+        is_right = call();
+    } catch (const std::bad_alloc &) {
+        is_thrown = true;
+    }
+    failing = Failing::none;
+    expect(is_right, title, "text");
+    expect(live == before, title, "number of blocks that are not freed");
+    return is_thrown;
+}
+
+// Lets each allocation of a call fail in turn: with all that follow, when the failure must be thrown, and alone, when the call may succeed.
+template <typename Call> static void check_memory(std::string_view title, Call call) {
+    unsigned successes = 0, thrown = 0;
+    do {
+        thrown += throws(title, Failing::once, successes, call);
+        const bool is_thrown = throws(title, Failing::always, successes, call);
+        expect(is_thrown == (refused > 0), title, "exception");
+        successes++;
+    } while (refused > 0);
+    expect(thrown > 0, title, "number of exceptions");
+}
+
+static void check_failing_allocations() {
+    const std::string indent(40, ' ');
+    const std::string text = "(module\n" + indent + "(type (;0;) (func))\n)\n";
+    Options options;
+    options.indent = indent;
+    check_memory("failing allocations", [&] { return wasmprinter::print(ONE_TYPE, options) == text; });
+    check_memory("failing allocations of lines", [&] { return wasmprinter::print_lines(ONE_TYPE, options).text() == text; });
+    options.fold = true;
+    check_memory("failing allocations, folded", [&] { return wasmprinter::print(ONE_TYPE, options) == text; });
+}
+
+int main(int argc, char **argv) {
+    const std::vector<Case> cases = read_cases(argc == 2 ? argv[1] : "");
+    expect(!cases.empty(), "the file of cases", "number of cases");
+    for (const Case &test_case : cases) {
+        check(test_case);
+    }
+    check_other_bytes();
+    check_empty_input();
+    check_indents();
+    check_long_text();
+    check_many_lines();
+    check_copies();
+    check_failing_allocations();
+    expect(wasmprinter::version() == "0.263.0-r1", "the library", "version");
+    std::cout << "wasmprinter.hpp: " << cases.size() << " cases, " << failed << " differences\n";
+    return failed == 0 ? EXIT_SUCCESS : EXIT_FAILURE;
+}

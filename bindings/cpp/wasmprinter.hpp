@@ -1,0 +1,234 @@
+// wasmprinter.hpp: prints WebAssembly modules, from the binary format to the text format. For C++17 and later.
+//
+//     std::string text = wasmprinter::print(wasm);
+//
+// All functions are inline and call those of wasmprinter.h. Its head says how to link the library, and its statements on lengths, places
+// and threads hold here too. Each function that prints throws Error if the module can't be printed, and std::bad_alloc if memory is
+// missing.
+#ifndef WASMPRINTER_HPP
+#define WASMPRINTER_HPP
+
+#if __cplusplus < 201703L
+#error "wasmprinter.hpp needs C++17"
+#endif
+
+#include "wasmprinter.h"
+
+#include <cstddef>
+#include <cstdint>
+#include <cstdlib>
+#include <iterator>
+#include <memory>
+#include <new>
+#include <optional>
+#include <stdexcept>
+#include <string>
+#include <string_view>
+#include <type_traits>
+#include <utility>
+#include <vector>
+
+namespace wasmprinter {
+
+// The options of printing.
+struct Options {
+    bool offsets = false;           // begin each line after the first with its place
+    bool skeleton = false;          // leave out bodies, items of element segments, and bytes of data segments and custom sections
+    bool name_unnamed = false;      // synthesize identifiers for items without a name
+    bool fold = false;              // put each operator in parentheses with its operands
+    std::string_view indent = "  "; // the text of one level of nesting, in UTF-8
+};
+
+// The reason why a module was not printed. what() describes it: `malformed module at byte 0x1f`.
+class Error : public std::runtime_error {
+  public:
+    Error(WasmprinterStatus status, std::uint64_t detail)
+        : std::runtime_error(describe(status, detail)), status_(status), detail_(detail) {}
+
+    // Returns the number of the error, such as WASMPRINTER_MALFORMED. It is never WASMPRINTER_MEMORY: then std::bad_alloc is thrown.
+    WasmprinterStatus status() const noexcept { return status_; }
+
+    // Returns the place, the count or the id of the error, as wasmprinter.h describes it, or 0 if it has none.
+    std::uint64_t detail() const noexcept { return detail_; }
+
+  private:
+    static std::string describe(WasmprinterStatus status, std::uint64_t detail) {
+        char text[WASMPRINTER_ERROR_TEXT_LEN + 1];
+        wasmprinter_error_text(status, detail, wasmprinter_buffer(text, sizeof text));
+        return text;
+    }
+
+    WasmprinterStatus status_;
+    std::uint64_t detail_;
+};
+
+namespace detail {
+
+// An allocator of vectors whose new elements are not initialized, so that only the printer writes to them.
+template <typename T> struct Uninitialized : std::allocator<T> {
+    template <typename U> struct rebind { using other = Uninitialized<U>; };
+    Uninitialized() = default;
+    template <typename U> Uninitialized(const Uninitialized<U> &) noexcept {}
+    template <typename U> void construct(U *element) noexcept { ::new (static_cast<void *>(element)) U; }
+};
+
+template <typename T> using Array = std::vector<T, Uninitialized<T>>;
+
+// Frees a block from realloc.
+struct Free {
+    void operator()(char *block) const noexcept { std::free(block); }
+};
+
+// Returns bytes of another type as a view.
+inline std::string_view view_of(const void *bytes, std::size_t size) noexcept { return {static_cast<const char *>(bytes), size}; }
+
+inline WasmprinterBytes bytes_of(std::string_view bytes) noexcept { return wasmprinter_bytes(bytes.data(), bytes.size()); }
+
+// Returns the options for C. An empty indent stays empty, even if its pointer is null.
+inline WasmprinterOptions options_of(const Options &options) noexcept {
+    WasmprinterOptions chosen = {0, bytes_of(options.indent.empty() ? "" : options.indent)};
+    chosen.flags |= options.offsets ? WASMPRINTER_OFFSETS : 0;
+    chosen.flags |= options.skeleton ? WASMPRINTER_SKELETON : 0;
+    chosen.flags |= options.name_unnamed ? WASMPRINTER_NAME_UNNAMED : 0;
+    chosen.flags |= options.fold ? WASMPRINTER_FOLD : 0;
+    return chosen;
+}
+
+// Throws the error, if there is one.
+inline void check(WasmprinterStatus status, const WasmprinterResult &result) {
+    if (status == WASMPRINTER_MEMORY) {
+        throw std::bad_alloc();
+    }
+    if (status != WASMPRINTER_OK) {
+        throw Error(status, result.detail);
+    }
+}
+
+} // namespace detail
+
+// Returns the text of a module.
+[[nodiscard]] inline std::string print(std::string_view wasm, const Options &options = {}) {
+    const WasmprinterOptions chosen = detail::options_of(options);
+    WasmprinterBuffer text = {nullptr, 0};
+    WasmprinterResult result = {0, 0, 0};
+    const WasmprinterStatus status = wasmprinter_print_alloc(detail::bytes_of(wasm), &chosen, nullptr, nullptr, &text, &result);
+    const std::unique_ptr<char, detail::Free> block(text.ptr);
+    detail::check(status, result);
+    return {text.ptr, text.len};
+}
+
+// A line of a text.
+struct Line {
+    std::optional<std::uint64_t> place; // the place of the line in the module, if it shows anything of the module
+    std::string_view text;              // the line with its line feed
+};
+
+// The lines of a text. The views that it returns are valid until it is destroyed, moved or assigned to.
+class Lines {
+  public:
+    // Goes through the lines.
+    class iterator {
+      public:
+        using iterator_category = std::input_iterator_tag; // since `*` returns a value
+        using value_type = Line;
+        using difference_type = std::ptrdiff_t;
+        using pointer = void;
+        using reference = Line;
+
+        iterator() = default;
+        Line operator*() const noexcept { return (*lines_)[index_]; }
+        iterator &operator++() noexcept {
+            ++index_;
+            return *this;
+        }
+        iterator operator++(int) noexcept { return iterator(lines_, index_++); }
+        friend bool operator==(const iterator &a, const iterator &b) noexcept { return a.index_ == b.index_; }
+        friend bool operator!=(const iterator &a, const iterator &b) noexcept { return a.index_ != b.index_; }
+
+      private:
+        friend class Lines;
+        iterator(const Lines *lines, std::size_t index) noexcept : lines_(lines), index_(index) {}
+
+        const Lines *lines_ = nullptr;
+        std::size_t index_ = 0;
+    };
+    using const_iterator = iterator;
+    using value_type = Line;
+
+    // Returns the whole text.
+    std::string_view text() const noexcept { return {text_.data(), text_.size()}; }
+
+    // Returns the number of lines.
+    std::size_t size() const noexcept { return table_.size(); }
+    bool empty() const noexcept { return table_.empty(); }
+
+    // Returns a line. The index must be less than size().
+    Line operator[](std::size_t index) const noexcept {
+        const WasmprinterLine &line = table_[index];
+        const std::size_t end = index + 1 < table_.size() ? table_[index + 1].start : text_.size();
+        return {line.has_place != 0 ? std::optional(line.place) : std::nullopt, {text_.data() + line.start, end - line.start}};
+    }
+
+    iterator begin() const noexcept { return {this, 0}; }
+    iterator end() const noexcept { return {this, size()}; }
+
+  private:
+    friend Lines print_lines(std::string_view wasm, const Options &options);
+    Lines(detail::Array<char> text, detail::Array<WasmprinterLine> table) noexcept : text_(std::move(text)), table_(std::move(table)) {}
+
+    detail::Array<char> text_;
+    detail::Array<WasmprinterLine> table_;
+};
+
+// Returns the lines of the text of a module.
+[[nodiscard]] inline Lines print_lines(std::string_view wasm, const Options &options = {}) {
+    const WasmprinterOptions chosen = detail::options_of(options);
+    // Most texts have less than 12 bytes for each byte of the module, and a line for every two. A longer text is printed again. Pages of an
+    // array that are not written to take no memory.
+    std::size_t length = wasm.size() * 12 + 4096, count = wasm.size() / 2 + 64;
+    for (;;) {
+        detail::Array<char> text(length);
+        detail::Array<WasmprinterLine> table(count);
+        WasmprinterResult result = {0, 0, 0};
+        detail::check(wasmprinter_print_lines(detail::bytes_of(wasm), &chosen, {text.data(), length}, {table.data(), count}, &result),
+                      result);
+        if (result.length <= length && result.count <= count) {
+            text.resize(result.length);
+            table.resize(result.count);
+            return {std::move(text), std::move(table)};
+        }
+        length = result.length;
+        count = result.count;
+    }
+}
+
+// The same functions for bytes in a container, such as a std::vector<std::uint8_t> or a std::span<const std::byte>, and for a pointer.
+
+template <typename Bytes, typename = std::enable_if_t<sizeof(*std::declval<const Bytes &>().data()) == 1>>
+[[nodiscard]] std::string print(const Bytes &wasm, const Options &options = {}) {
+    return print(detail::view_of(wasm.data(), wasm.size()), options);
+}
+
+template <typename Bytes, typename = std::enable_if_t<sizeof(*std::declval<const Bytes &>().data()) == 1>>
+[[nodiscard]] Lines print_lines(const Bytes &wasm, const Options &options = {}) {
+    return print_lines(detail::view_of(wasm.data(), wasm.size()), options);
+}
+
+[[nodiscard]] inline std::string print(const std::uint8_t *wasm, std::size_t size, const Options &options = {}) {
+    return print(detail::view_of(wasm, size), options);
+}
+
+[[nodiscard]] inline Lines print_lines(const std::uint8_t *wasm, std::size_t size, const Options &options = {}) {
+    return print_lines(detail::view_of(wasm, size), options);
+}
+
+// Returns the release of the library, such as `0.263.0-r1`.
+[[nodiscard]] inline std::string version() {
+    const std::uint32_t number = wasmprinter_version();
+    return std::to_string(number / 1000000) + '.' + std::to_string(number / 1000 % 1000) + '.' + std::to_string(number % 1000) + "-r" +
+           std::to_string(wasmprinter_revision());
+}
+
+} // namespace wasmprinter
+
+#endif

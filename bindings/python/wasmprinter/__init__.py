@@ -1,0 +1,324 @@
+"""Prints WebAssembly modules, from the binary format to the text format.
+
+    >>> print_bytes(b"\\0asm\\1\\0\\0\\0")
+    '(module)\\n'
+
+This package calls the proved library libwasmprinter through ctypes. The environment variable WASMPRINTER_SO names the library. If it is not
+set, libwasmprinter.so.1 or libwasmprinter.so is loaded from the system's search path. Calls from several threads run at the same time.
+
+Options of the functions that print:
+
+- offsets begins each line after the first with its place, its byte offset in the module.
+- skeleton leaves out bodies, items of element segments, and bytes of data segments and custom sections.
+- name_unnamed synthesizes identifiers for items without a name.
+- fold puts each operator in parentheses with its operands.
+- indent is the text of one level of nesting, or a number of spaces.
+"""
+
+from __future__ import annotations
+
+import ctypes
+import itertools
+import mmap
+import os
+import struct
+from typing import Any, ClassVar, Dict, Iterator, NamedTuple, Optional, Tuple, Type, Union
+
+__all__ = [
+    "print_bytes", "print_file", "print_lines", "version", "revision", "BytesLike", "Line", "Error", "Malformed", "Component", "TooManyLocals",
+    "TooManyFunctions", "EmptyTableInit", "FoldLegacy", "FoldHint", "DylinkSubsection", "TooLong", "OutOfMemory", "UnknownOption",
+]
+
+# the release 0.263.0-r1
+__version__ = "0.263.0.post1"
+
+BytesLike = Union[bytes, bytearray, memoryview]
+
+# WASMPRINTER_OK and WASMPRINTER_ERROR_TEXT_LEN in wasmprinter.h
+_SUCCESS = 0
+_ERROR_TEXT_LEN = 200
+
+# the bits of the options
+_FLAGS = {"offsets": 1, "skeleton": 2, "name_unnamed": 4, "fold": 8}
+
+# WasmprinterLine: start, place, has_place
+_LINE = struct.Struct("NQI4x")
+
+# Most texts have less than 12 bytes for each byte of the module, and more than 16 bytes in a line.
+_TEXT_PER_BYTE, _LEAST_TEXT = 12, 4096
+_TEXT_PER_LINE, _LEAST_LINES = 16, 64
+
+# factors of the parts of the version number
+_MAJOR, _MINOR = 1_000_000, 1_000
+
+
+class Error(Exception):
+    """The reason why a module was not printed.
+
+    `status` is the number of the error in wasmprinter.h. `detail` is its place, count, id or bits, or 0. An error of this class itself has a
+    status that this package does not know; its text is the description of the library.
+    """
+
+    status: int = _SUCCESS
+    detail: int
+    _by_status: ClassVar[Dict[int, Type[Error]]] = {}
+
+    def __init_subclass__(cls, *, status: Optional[int] = None, **others: Any) -> None:
+        """Registers the class under its status."""
+        super().__init_subclass__(**others)
+        if status is not None:
+            cls.status = status
+            Error._by_status[status] = cls
+
+    def __init__(self, detail: int = 0, *, status: Optional[int] = None) -> None:
+        super().__init__(detail)
+        self.detail = detail
+        if status is not None:
+            self.status = status
+
+    def __str__(self) -> str:
+        out = (ctypes.c_uint8 * _ERROR_TEXT_LEN)()
+        length = _error_text(self.status, self.detail, out, len(out))
+        return bytes(out[:length]).decode("ascii")
+
+
+class _PlacedError(Error):
+    """An error at a place."""
+
+    @property
+    def place(self) -> int:
+        """The place: a byte offset from the start of the module."""
+        return self.detail
+
+
+class Malformed(_PlacedError, status=1):
+    """The bytes are not in the binary format. `place` is as wasmprinter.h describes it."""
+
+
+class Component(Error, status=2):
+    """The bytes are marked as a component."""
+
+
+class TooManyLocals(_PlacedError, status=3):
+    """A function has more than 50,000 locals. `place` is that of its body."""
+
+
+class TooManyFunctions(Error, status=4):
+    """The module defines more than 1,000,000 functions."""
+
+    @property
+    def count(self) -> int:
+        """The number of functions."""
+        return self.detail
+
+
+class EmptyTableInit(_PlacedError, status=5):
+    """The initialiser of a table has no operators. `place` is that of the table."""
+
+
+class FoldLegacy(_PlacedError, status=6):
+    """Operators are folded, and one is a legacy exception operator. `place` is that of the operator."""
+
+
+class FoldHint(_PlacedError, status=7):
+    """Operators are folded, and a branch hint has no position in folded text. `place` is that of the branch hint."""
+
+
+class DylinkSubsection(Error, status=8):
+    """A `dylink.0` section has an unknown subsection."""
+
+    @property
+    def id(self) -> int:
+        """The id of the first unknown subsection."""
+        return self.detail
+
+
+class TooLong(Error, status=10):
+    """The text has more bytes than an address can count."""
+
+
+class OutOfMemory(Error, MemoryError, status=11):
+    """An allocation failed."""
+
+
+class UnknownOption(Error, status=13):
+    """The library does not know an option of this package: it is an earlier release."""
+
+    @property
+    def bits(self) -> int:
+        """The bits of the options that the library does not know."""
+        return self.detail
+
+
+class Line(NamedTuple):
+    """A line of the text with its line feed, and its byte offset in the module, or `None` if it shows nothing of the module."""
+
+    place: Optional[int]
+    text: str
+
+
+class _Result(ctypes.Structure):
+    """WasmprinterResult."""
+
+    _fields_ = [("length", ctypes.c_size_t), ("count", ctypes.c_size_t), ("detail", ctypes.c_uint64)]
+
+
+def _missing(reason: str) -> ImportError:
+    """Returns the error for a library that is missing."""
+    return ImportError(f"{reason}. Install the library with tools/install.sh, or set WASMPRINTER_SO to its path.", name=__name__)
+
+
+def _load() -> ctypes.CDLL:
+    """Returns the library. Raises ImportError if it can't be loaded."""
+    named = os.environ.get("WASMPRINTER_SO")
+    reasons = []
+    for name in [named] if named else ["libwasmprinter.so.1", "libwasmprinter.so"]:
+        try:
+            return ctypes.CDLL(name)
+        except OSError as reason:
+            reasons.append(str(reason))
+    raise _missing(f"libwasmprinter can't be loaded: {'; '.join(reasons)}")
+
+
+_library = _load()
+
+
+def _function(name: str, result: Any, *arguments: Any) -> Any:
+    """Returns a function of the library with its types. Raises ImportError if it is missing."""
+    try:
+        function = getattr(_library, name)
+    except AttributeError as reason:
+        raise _missing(f"{_library._name} is not libwasmprinter, or an earlier release: {reason}") from None
+    function.restype, function.argtypes = result, arguments
+    return function
+
+
+_print = _function(
+    "wasmprinter_raw_print", ctypes.c_uint32,
+    ctypes.c_char_p, ctypes.c_size_t,
+    ctypes.c_uint32,
+    ctypes.c_char_p, ctypes.c_size_t,
+    ctypes.POINTER(ctypes.c_uint8), ctypes.c_size_t,
+    ctypes.POINTER(ctypes.c_uint8), ctypes.c_size_t,
+    ctypes.POINTER(_Result),
+)
+_error_text = _function(
+    "wasmprinter_raw_error_text", ctypes.c_size_t,
+    ctypes.c_uint32, ctypes.c_uint64, ctypes.POINTER(ctypes.c_uint8), ctypes.c_size_t,
+)
+_version = _function("wasmprinter_version", ctypes.c_uint32)
+_revision = _function("wasmprinter_revision", ctypes.c_uint32)
+
+
+def _error_of(status: int, detail: int) -> Error:
+    """Returns the error with a status and a detail."""
+    known = Error._by_status.get(status)
+    return Error(detail, status=status) if known is None else known(detail)
+
+
+def _flags_of(**options: bool) -> int:
+    """Returns the sum of the bits of the options. Raises TypeError if one is no bool."""
+    for name, value in options.items():
+        if not isinstance(value, bool):
+            raise TypeError(f"{name} must be a bool, not {type(value).__name__}")
+    return sum(_FLAGS[name] for name, value in options.items() if value)
+
+
+def _indent_of(indent: Union[str, int]) -> bytes:
+    """Returns the text of one level of nesting in UTF-8. Raises TypeError if it is neither a text nor a number of spaces."""
+    if isinstance(indent, str):
+        return indent.encode("utf-8")
+    if not isinstance(indent, int) or isinstance(indent, bool):
+        raise TypeError(f"indent must be a str or an int, not {type(indent).__name__}")
+    if indent < 0:
+        raise ValueError("indent must not be negative")
+    return b" " * indent
+
+
+def _allocate(size: int) -> Union[mmap.mmap, bytes]:
+    """Returns memory of this size, or empty bytes if that fails. Pages that are not written to take no memory."""
+    try:
+        return mmap.mmap(-1, size, flags=mmap.MAP_PRIVATE | mmap.MAP_ANONYMOUS) if size > 0 else b""
+    except (OSError, OverflowError):
+        return b""
+
+
+def _first(memory: Union[mmap.mmap, bytes]) -> ctypes.c_uint8:
+    """Returns the first byte of the memory. If it is empty, returns a byte that the library does not write to."""
+    return ctypes.c_uint8() if isinstance(memory, bytes) else ctypes.c_uint8.from_buffer(memory)
+
+
+def _print_whole(data: BytesLike, flags: int, indent: bytes, with_lines: bool) -> Tuple[memoryview, memoryview]:
+    """Returns the text in UTF-8, and the table of its lines, which is empty if it is not needed. Raises a subclass of Error.
+
+    Nearly every module is printed once. It is printed again if its text or its table is longer than expected, or if there is not enough memory
+    for the expected lengths.
+    """
+    wasm = data if isinstance(data, bytes) else memoryview(data).tobytes()
+    expected = len(wasm) * _TEXT_PER_BYTE + _LEAST_TEXT
+    text, table = _allocate(expected), _allocate((expected // _TEXT_PER_LINE + _LEAST_LINES) * _LINE.size if with_lines else 0)
+    result = _Result()
+    while True:
+        status = _print(
+            wasm, len(wasm), flags, indent, len(indent), _first(text), len(text), _first(table), len(table) // _LINE.size, result,
+        )
+        if status != _SUCCESS:
+            raise _error_of(status, result.detail)
+        table_len = result.count * _LINE.size if with_lines else 0
+        if result.length <= len(text) and table_len <= len(table):
+            return memoryview(text)[:result.length], memoryview(table)[:table_len]
+        text, table = _allocate(result.length), _allocate(table_len)
+        if len(text) < result.length or len(table) < table_len:
+            raise OutOfMemory()
+
+
+def print_bytes(
+    data: BytesLike, *,
+    offsets: bool = False, skeleton: bool = False, name_unnamed: bool = False, fold: bool = False, indent: Union[str, int] = "  ",
+) -> str:
+    """Returns the text of a module. Raises a subclass of Error if it can't be printed."""
+    flags = _flags_of(offsets=offsets, skeleton=skeleton, name_unnamed=name_unnamed, fold=fold)
+    text, _ = _print_whole(data, flags, _indent_of(indent), with_lines=False)
+    return str(text, "utf-8")
+
+
+def print_file(
+    path: Union[str, os.PathLike[str]], *,
+    offsets: bool = False, skeleton: bool = False, name_unnamed: bool = False, fold: bool = False, indent: Union[str, int] = "  ",
+) -> str:
+    """Returns the text of the module in a file. Raises OSError if the file can't be read, or a subclass of Error."""
+    with open(os.fspath(path), "rb") as file:
+        data = file.read()
+    return print_bytes(data, offsets=offsets, skeleton=skeleton, name_unnamed=name_unnamed, fold=fold, indent=indent)
+
+
+def print_lines(
+    data: BytesLike, *,
+    offsets: bool = False, skeleton: bool = False, name_unnamed: bool = False, fold: bool = False, indent: Union[str, int] = "  ",
+) -> Iterator[Line]:
+    """Prints a module, and returns an iterator over the lines of its text. Raises a subclass of Error if the module can't be printed.
+
+    The iterator keeps the text and a table of 24 bytes for each line. It makes each Line when it returns it.
+    """
+    flags = _flags_of(offsets=offsets, skeleton=skeleton, name_unnamed=name_unnamed, fold=fold)
+    return _lines(*_print_whole(data, flags, _indent_of(indent), with_lines=True))
+
+
+def _lines(text: memoryview, table: memoryview) -> Iterator[Line]:
+    """Yields the lines of a text."""
+    rows = itertools.chain(_LINE.iter_unpack(table), [(len(text), 0, 0)])
+    start, place, has_place = next(rows)
+    for end, next_place, has_next_place in rows:
+        yield Line(place if has_place else None, str(text[start:end], "utf-8"))
+        start, place, has_place = end, next_place, has_next_place
+
+
+def version() -> Tuple[int, int, int]:
+    """Returns the version of the library: the major, the minor and the patch number."""
+    number = _version()
+    return number // _MAJOR, number % _MAJOR // _MINOR, number % _MINOR
+
+
+def revision() -> int:
+    """Returns the number N of the release 0.263.0-rN of the library."""
+    return _revision()

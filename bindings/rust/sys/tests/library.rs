@@ -1,0 +1,72 @@
+//! Calls each function of the library.
+
+use wasmprinter_proved_sys::*;
+
+/// Buffers are filled with this byte before a call.
+const GUARD: u8 = 0xa5;
+
+/// Prints a module over a buffer and a table of one line, and returns them with the status and the result.
+fn print(wasm: &[u8], flags: u32) -> (u32, WasmprinterResult, [u8; 16], WasmprinterLine) {
+    let indent = b"  ";
+    let mut out = [GUARD; 16];
+    let mut line = WasmprinterLine {
+        start: 1,
+        place: 1,
+        has_place: 0,
+    };
+    let mut result = WasmprinterResult::default();
+    // SAFETY: each pointer and length comes from a reference.
+    let status = unsafe {
+        wasmprinter_raw_print(
+            wasm.as_ptr(),
+            wasm.len(),
+            flags,
+            indent.as_ptr(),
+            indent.len(),
+            out.as_mut_ptr(),
+            out.len(),
+            &mut line,
+            1,
+            &mut result,
+        )
+    };
+    (status, result, out, line)
+}
+
+#[test]
+fn is_this_release() {
+    // SAFETY: these functions have no requirements.
+    let (version, revision) = unsafe { (wasmprinter_version(), wasmprinter_revision()) };
+    assert_eq!(version, WASMPRINTER_VERSION);
+    assert_eq!(revision, WASMPRINTER_REVISION);
+}
+
+#[test]
+fn prints() {
+    let (status, result, out, line) = print(b"\0asm\x01\0\0\0", 0);
+    assert_eq!(status, WASMPRINTER_OK);
+    assert_eq!((result.length, result.count, result.detail), (9, 1, 0));
+    assert_eq!(&out[..9], b"(module)\n");
+    assert_eq!(out[9..], [GUARD; 7]);
+    assert_eq!((line.start, line.place, line.has_place), (0, 0, 1));
+}
+
+#[test]
+fn refuses_unknown_options() {
+    let flags = 0x30 | WASMPRINTER_FOLD;
+    let (status, result, out, _) = print(b"\0asm\x01\0\0\0", flags);
+    assert_eq!(status, WASMPRINTER_UNKNOWN_OPTION);
+    assert_eq!((result.length, result.count, result.detail), (0, 0, 0x30));
+    assert_eq!(out, [GUARD; 16]);
+}
+
+#[test]
+fn describes_errors() {
+    let mut out = [GUARD; WASMPRINTER_ERROR_TEXT_LEN];
+    // SAFETY: the pointer and the length are those of the array.
+    let length = unsafe {
+        wasmprinter_raw_error_text(WASMPRINTER_MALFORMED, 31, out.as_mut_ptr(), out.len())
+    };
+    assert_eq!(&out[..length], b"malformed module at byte 0x1f");
+    assert!(out[length..].iter().all(|byte| *byte == GUARD));
+}

@@ -1,0 +1,80 @@
+//! Lets large allocations of this crate fail.
+
+use std::alloc::{GlobalAlloc, Layout, System};
+use std::cell::Cell;
+use wasmprinter::{Config, Error};
+
+/// The empty module.
+const EMPTY: &[u8] = b"\0asm\x01\0\0\0";
+
+/// A module with one type.
+const ONE_TYPE: &[u8] = b"\0asm\x01\0\0\0\x01\x04\x01\x60\0\0";
+
+thread_local! {
+    /// Allocations of this thread that are longer than this number of bytes fail.
+    static MOST: Cell<usize> = const { Cell::new(usize::MAX) };
+}
+
+/// The system's allocator, except that it refuses long allocations. A panic may allocate.
+struct Limited;
+
+// SAFETY: each call is passed to the system's allocator, or returns null, which means that the allocation failed.
+unsafe impl GlobalAlloc for Limited {
+    unsafe fn alloc(&self, layout: Layout) -> *mut u8 {
+        if layout.size() > MOST.with(Cell::get) && !std::thread::panicking() {
+            return std::ptr::null_mut();
+        }
+        // SAFETY: the requirements are the same.
+        unsafe { System.alloc(layout) }
+    }
+
+    unsafe fn dealloc(&self, block: *mut u8, layout: Layout) {
+        // SAFETY: the requirements are the same.
+        unsafe { System.dealloc(block, layout) }
+    }
+}
+
+#[global_allocator]
+static ALLOCATOR: Limited = Limited;
+
+/// Lets all allocations succeed when it is dropped.
+struct Reset;
+
+impl Drop for Reset {
+    fn drop(&mut self) {
+        MOST.with(|cell| cell.set(usize::MAX));
+    }
+}
+
+/// Calls a function while allocations of more than `most` bytes fail.
+fn with_most<T>(most: usize, call: impl FnOnce() -> T) -> T {
+    let _reset = Reset;
+    MOST.with(|cell| cell.set(most));
+    call()
+}
+
+/// There is no memory for the first buffer, but for the text.
+#[test]
+fn prints_with_little_memory() {
+    let config = Config::new();
+    let text = with_most(64, || config.print_to_string(EMPTY));
+    assert_eq!(text.as_deref(), Ok("(module)\n"));
+    let mut storage = String::new();
+    let lines = with_most(64, || config.offsets_and_lines(EMPTY, &mut storage));
+    assert!(lines.expect("lines").eq([(Some(0), "(module)\n")]));
+}
+
+#[test]
+fn reports_that_memory_is_missing() {
+    let mut config = Config::new();
+    config.indent_text(" ".repeat(5000));
+    let text = with_most(4999, || config.print_to_string(ONE_TYPE));
+    assert_eq!(text, Err(Error::Memory));
+    // There is memory for the text, but not to append it.
+    let mut storage = "before\n".repeat(100);
+    let lines = with_most(5200, || {
+        config.offsets_and_lines(ONE_TYPE, &mut storage).err()
+    });
+    assert_eq!(lines, Some(Error::Memory));
+    assert_eq!(storage, "before\n".repeat(100));
+}
