@@ -5,6 +5,10 @@
 #   tools/install.sh install FOLDER [PREFIX]   installs what was built in the folder; needs no `rt` and no compiler
 #   tools/install.sh uninstall [PREFIX]        removes the installed files
 #   tools/install.sh [PREFIX]                  builds and installs
+#   tools/install.sh stage FOLDER TO           puts the same files into the folder TO, for tools/release.sh
+#
+# `build` also leaves BUILD.txt in the folder: the commit, whether files differ from it, and the kit. `stage` copies it, and fails if the commit
+# or these files have changed since. The staged file for pkg-config works in any place.
 #
 # The prefix is /usr/local by default. DESTDIR, if set, is prepended to the path of each file that is installed or removed.
 #
@@ -37,14 +41,46 @@ number_of() {
     sed -n "s/^#define $1 \([0-9]*\)$/\1/p" "$root/include/wasmprinter.h"
 }
 
+# fail WORD..: prints a message, and ends with status 1.
+fail() {
+    echo "install: $*" >&2
+    exit 1
+}
+
+# sources: prints the commit of the checkout, its date, and whether files differ from it.
+sources() {
+    if ! TZ=UTC git -C "$root" log -1 --date=iso-strict-local --format='# Commit: %H%n# Date of the commit: %cd'; then
+        echo '# Commit: unknown'
+        return
+    fi
+    changed=$(git -C "$root" status --porcelain | wc -l)
+    case $changed in
+    0) echo '# Work tree: clean' ;;
+    *) echo "# Work tree: files that differ from the commit: $changed" ;;
+    esac
+}
+
+# record FOLDER: writes what was built from which sources to BUILD.txt, unless they changed meanwhile.
+record() {
+    rm -f "$1/BUILD.txt"
+    sources >"$work/sources_after"
+    if cmp -s "$work/sources" "$work/sources_after"; then
+        rt version | sed 's/^/# Kit: /' | cat "$work/sources" - >"$1/BUILD.txt"
+    else
+        echo "install: the commit or the work tree changed meanwhile, so tools/release.sh will not accept $1" >&2
+    fi
+}
+
 # build FOLDER
 build() {
     mkdir -p "$1"
+    sources >"$work/sources"
     # `rt run` leaves the program in crates/printwasm/out
     printf '\000asm\001\000\000\000' >"$work/empty.wasm"
     (cd "$root/crates/printwasm" && rt run -- "$work/empty.wasm")
     cp "$root/crates/printwasm/out/printwasm" "$1/printwasm"
     sh "$root/tools/library.sh" "$1"
+    record "$1"
 }
 
 # describe: writes the files for pkg-config and CMake to the work folder.
@@ -82,6 +118,16 @@ each() {
     "$1" 644 "$root/LICENSE" share/doc/wasmprinter/LICENSE
 }
 
+# need MODE SOURCE TARGET: fails if the source is missing.
+need() {
+    [ ! -s "$2" ] || return 0
+    case $2 in
+    "$built"/*) fail "missing: $2. \`sh tools/install.sh build $built\` builds the program and the library. On four processors this takes an" \
+        "hour to an hour and a half the first time, and seconds if no source changed since." ;;
+    *) fail "missing: $2" ;;
+    esac
+}
+
 # put MODE SOURCE TARGET
 put() {
     install -D -m "$1" "$2" "$to/$3"
@@ -92,15 +138,36 @@ remove() {
     rm -f "$to/$3"
 }
 
-# install_from FOLDER
-install_from() {
+# put_all FOLDER: puts all files under `to`.
+put_all() {
+    built=$1
     describe
+    each need "$1"
     each put "$1"
     ln -sf libwasmprinter.so.1 "$to/lib/libwasmprinter.so"
+}
+
+# install_from FOLDER
+install_from() {
+    put_all "$1"
     echo "install: the program, the library and the headers are under $to"
     case ${DESTDIR:-}$prefix in
     /usr | /usr/local) echo "install: run ldconfig as root, so that programs find libwasmprinter.so.1" ;;
     esac
+}
+
+# stage FOLDER TO
+stage() {
+    to=$2
+    # pkg-config replaces this by the folder of the file
+    # shellcheck disable=SC2016
+    prefix='${pcfiledir}/../..'
+    put_all "$1"
+    again="Run \`sh tools/install.sh build $1\` again: this takes seconds if no source changed."
+    [ -s "$1/BUILD.txt" ] || fail "missing: $1/BUILD.txt. $again"
+    sources >"$work/sources"
+    grep -v '^# Kit: ' "$1/BUILD.txt" | cmp -s - "$work/sources" || fail "the commit or the work tree is not that of $1/BUILD.txt. $again"
+    put 644 "$1/BUILD.txt" BUILD.txt
 }
 
 uninstall() {
@@ -135,7 +202,10 @@ uninstall:1 | uninstall:2)
     choose_prefix "${2:-}"
     uninstall
     ;;
-build:* | install:* | uninstall:*)
+stage:3)
+    stage "$2" "$3"
+    ;;
+build:* | install:* | uninstall:* | stage:*)
     usage
     ;;
 *:0 | *:1)

@@ -8,7 +8,8 @@
 #
 # - the library: its soname, that its names don't clash with those of a program, that a program can wrap malloc, that --gc-sections leaves out
 #   what a program doesn't call, and that tools/link.sh refuses a library without one of the header's functions;
-# - the installed files: which they are, programs that are built by pkg-config and CMake, and that `uninstall` removes each file;
+# - the installed files: which they are, programs that are built by pkg-config and CMake, that `uninstall` removes each file, and that nothing is
+#   installed if the program is missing;
 # - the options in the manual page and in the completions, and the messages in the manual page.
 #
 # Uses `cc`, GNU binutils, pkg-config and bash, and cmake and groff if they are there. Takes seconds.
@@ -82,6 +83,11 @@ DESTDIR=$work/staged sh "$root/tools/install.sh" install "$built" /opt/printer >
 sed -n 's,^#   PREFIX/,,p' "$root/tools/install.sh" | expect "installed files" installed
 DESTDIR=$work/staged sh "$root/tools/install.sh" uninstall /opt/printer >log
 [ -z "$(find staged ! -type d)" ] || fail "files are left after uninstall"
+
+mkdir nothing
+if sh "$root/tools/install.sh" install nothing refused 2>log; then fail "a folder without a program is not refused"; fi
+grep -q 'tools/install.sh build nothing' log || fail "the message does not name the command that builds"
+[ ! -e refused/lib ] || fail "files are installed without a program"
 
 sh "$root/tools/install.sh" install "$built" there >log
 export PKG_CONFIG_PATH="$work/there/lib/pkgconfig"

@@ -22,6 +22,7 @@ MESSAGES = ("bindings/cases.txt", "bindings/c/test.c", "tools/program.sh", "crat
 
 PROVES = "proves, tests or builds, as the gate does"
 INSTALLS = "needs or changes the user's folders. tools/packaging.sh is run by hand (docs/TESTING.md)"
+RELEASES = "needs the proved library. tools/embed.sh, run by hand, compares what the archive's examples print"
 STEP = "a step of the gate"
 # Commands, each with the reason why no test compares its output
 COMMANDS = {
@@ -32,6 +33,8 @@ COMMANDS = {
     "sh tools/install.sh ~/.local": INSTALLS,
     "sh tools/install.sh build /tmp/built": PROVES,
     "sudo sh tools/install.sh install /tmp/built /usr/local": INSTALLS,
+    "sh tools/release.sh /tmp/release /tmp/built": RELEASES,
+    "sh tools/embed.sh /tmp/release/wasmprinter-*.tar.gz": RELEASES,
     "export PKG_CONFIG_PATH=~/.local/lib/pkgconfig": INSTALLS,
     "cc bindings/c/example.c $(pkg-config --cflags --libs wasmprinter) -Wl,-rpath,$HOME/.local/lib -o example": INSTALLS,
     "rt try --test": PROVES,
@@ -121,6 +124,14 @@ def code_faults(tree, page, number, lines):
         at = min(start + same, len(source) - 1)
         best = max(best, (same, f"{page}:{number + same}: `{lines[same].strip()}`, but {path}:{numbers[at]} has `{source[at].strip()}`"))
     return [best[1]]
+
+
+def file_of(tree, page, lines):
+    """Returns the first file of a page that has all lines of a block and is in the tree, or `None`."""
+    for path in SOURCES[page]:
+        if path in tree.known and nearest(lines, [line for _, line in source_lines(tree, path)])[1] == len(lines):
+            return path
+    return None
 
 
 def rows(tree, path):

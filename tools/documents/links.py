@@ -12,7 +12,10 @@ RENAMED = ("tools/refusals.sh", "bindings/rows.txt")
 # Paths of files that are not in the repository, by page, with reasons
 GONE = {
     "CHANGELOG.md": {name: "the name before or after a change that the page lists" for name in RENAMED},
-    "bindings/README.md": {"UNSAFE.md": "a guide of the toolchain"},
+    "bindings/README.md": {
+        "UNSAFE.md": "a guide of the toolchain",
+        **{name: "a file of a release archive" for name in ("BUILD.txt", "bindings/python/*.whl")},
+    },
     "docs/GUARANTEES.md": {name: "a guide of the toolchain" for name in ("START-HERE.md", "LANGUAGE.md", "ERROR_HANDLING.md")},
 }
 PATH = re.compile(r"[\w.@+*-][\w.@+*{}, /-]*")

@@ -13,13 +13,13 @@ class Missing(Exception):
 
 
 class Tree:
-    """The files of the repository: their paths, those of the folders, and their texts, of which some may be changed."""
+    """The files below a folder, by default of the repository: their paths, those of the folders, and their texts, of which some may be changed."""
 
-    def __init__(self):
-        self.known, self.texts = set(), {}
-        for folder, folders, names in os.walk(ROOT):
+    def __init__(self, root=ROOT):
+        self.root, self.known, self.texts = root, set(), {}
+        for folder, folders, names in os.walk(root):
             folders[:] = [name for name in folders if name not in MADE]
-            self.known |= {pathlib.Path(folder, name).relative_to(ROOT).as_posix() for name in (*folders, *names)}
+            self.known |= {pathlib.Path(folder, name).relative_to(root).as_posix() for name in (*folders, *names)}
         self.pages = sorted(path for path in self.known if path.endswith(".md"))
         self.crates = {path.split("/")[1] for path in self.known if re.fullmatch(r"crates/\w+", path)}
         self.tops = {path.split("/")[0] for path in self.known if "/" in path} | self.crates
@@ -29,7 +29,7 @@ class Tree:
         if path not in self.texts:
             if path not in self.known:
                 raise Missing(f"{path}: does not exist, and tools/documents names it")
-            self.texts[path] = (ROOT / path).read_text(encoding="utf-8")
+            self.texts[path] = (self.root / path).read_text(encoding="utf-8")
         return self.texts[path]
 
     def lines(self, path):
