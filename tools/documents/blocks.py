@@ -6,7 +6,7 @@ from common.rows import rows_of
 
 ROWS = "crates/check_rows/data/"
 SOURCES = {
-    "README.md": (ROWS + "modules_names.txt", ROWS + "fold_modules.txt"),
+    "README.md": (ROWS + "modules_names.txt", ROWS + "fold_modules.txt", "bindings/c/example.c"),
     "docs/LIBRARY.md": ("crates/tests_modules/src/example.rt", "tools/program.sh"),
     "bindings/README.md": (
         "bindings/c/example.c",
