@@ -1,0 +1,1 @@
+"""Renames modules and words in all files of the repository, for tools/rename.py."""
