@@ -43,17 +43,21 @@ pub record HasCopied (old : Copier) (text : List ℕ) (starts : List Wasmprinter
   pub copied : new.out.now ≡ over text old.out.now
   pub counted : new.written ≡ length text
   pub small : new.written < 2 ^ 64
+  pub short : new.written ≤ new.limit
+  pub same_limit : new.limit ≡ old.limit
   pub same_table : new.lines.ghost_name ≡ old.lines.ghost_name
   pub lines : length starts < 2 ^ 64 → (new.lines.now ≡ over starts old.lines.now) × (new.count ≡ length starts)
 
 -- A further text is appended to what was written.
 copied_text : (old s t : Copier) (x y : List ℕ) (ls : List WasmprinterLine) → HasCopied old x ls s → Grows s y t → HasCopied old (x ++ y) ls t
-copied_text old s t x y ls h (same, written, counted, small, lines, count) = record {
+copied_text old s t x y ls h (same, written, counted, small, short, limit, lines, count) = record {
   same_buffer = same ∙ h.same_buffer;
   copied = written ∙ ap (λ (n : ℕ). over_from n y s.out.now) h.counted ∙ ap (λ (o : List ℕ). over_from (length x) y o) h.copied
       ∙ over_more x y old.out.now;
   counted = counted ∙ ap (λ (n : ℕ). n + length y) h.counted ∙ sym (length-append x y);
   small = small;
+  short = short;
+  same_limit = limit ∙ h.same_limit;
   same_table = ap (λ l. l.ghost_name) lines ∙ h.same_table;
   lines = λ few.
       let before = h.lines few in
@@ -63,11 +67,13 @@ copied_text old s t x y ls h (same, written, counted, small, lines, count) = rec
 -- A further line is appended to the entries.
 copied_line : (old s t : Copier) (x : List ℕ) (ls : List WasmprinterLine) (place : Option ℕ) → HasCopied old x ls s → Starts s place t →
     HasCopied old x (ls ++ entry place (length x) ∷ []) t
-copied_line old s t x ls place h (out, written, same, begun) = record {
+copied_line old s t x ls place h (out, written, limit, same, begun) = record {
   same_buffer = ap (λ o. o.ghost_name) out ∙ h.same_buffer;
   copied = ap (λ o. o.now) out ∙ h.copied;
   counted = written ∙ h.counted;
   small = subst (λ (n : ℕ). n < 2 ^ 64) (sym written) h.small;
+  short = subst (λ (n : ℕ). n ≤ t.limit) (sym written) (subst (λ (n : ℕ). s.written ≤ n) (sym limit) h.short);
+  same_limit = limit ∙ h.same_limit;
   same_table = same ∙ h.same_table;
   lines = λ few.
       let more = length-append ls (entry place (length x) ∷ []) in
@@ -122,7 +128,7 @@ pub run_copied : (old new : Copier) (calls : List Call) → IsFresh old → Run 
 run_copied old new calls fresh r =
     let none = fresh.text in
     copied_calls old old new [] [] calls
-    (record { same_buffer = refl; copied = refl; counted = fresh.text; small = omega (arith, none); same_table = refl; lines = λ few. (refl, fresh.lines) }) r
+    (record { same_buffer = refl; copied = refl; counted = fresh.text; small = omega (arith, none); short = omega (arith, none); same_limit = refl; same_table = refl; lines = λ few. (refl, fresh.lines) }) r
 
 -- ---- The entries of calls that differ only in how text is split
 
@@ -185,3 +191,11 @@ pub on_ok_over : {T : Type 0} (o : Options) (bytes : List ℕ) (old new : Copier
     OnOk r (HasLinesOver o bytes (buffers old.out.now new.out.now old.lines.now new.lines.now) new.written new.count)
 on_ok_over o bytes old new (Ok x) fresh v = printed_over o bytes old new fresh v
 on_ok_over o bytes old new (Err e) fresh v = tt
+
+-- If a module was printed, its text is not longer than the limit.
+pub on_ok_short : {T : Type 0} (o : Options) (bytes : List ℕ) (old new : Copier) (r : Result T Error) → IsFresh old →
+    OnOk r (Printed (copying old new) false o bytes) → OnOk r (new.written ≤ old.limit)
+on_ok_short o bytes old new (Ok x) fresh v =
+    let has : HasCopied old (text_of v.calls) (entries 0 v.calls) new = run_copied old new v.calls fresh v.run in
+    subst (λ (n : ℕ). new.written ≤ n) has.same_limit has.short
+on_ok_short o bytes old new (Err e) fresh v = tt

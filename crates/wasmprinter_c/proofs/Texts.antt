@@ -74,18 +74,18 @@ whole_written old new text fresh w =
       same_table = has.same_table;
     }
 
-never_broken : (old new : Copier) (x : IoError) (text : List ℕ) → IsFresh old → IsShort text → Broken copied_meaning old new x (Text text ∷ []) → ⊥
-never_broken old new x text fresh short b =
+never_broken : (old new : Copier) (x : IoError) (text : List ℕ) → IsFresh old → 200 ≤ old.limit → IsShort text → Broken copied_meaning old new x (Text text ∷ []) → ⊥
+never_broken old new x text fresh roomy short b =
     let long = broken_long old fresh new x (Text text ∷ []) b in
     let same = ap length (append-nil text) in
-    omega (arith, long, same, short)
+    omega (arith, long, same, roomy, short)
 
-emitted : (old new : Copier) (r : Result (Unit {0}) Error) (text : List ℕ) → IsFresh old → IsShort text → Made copied_meaning old new (outcome r) (Text text ∷ []) → HasAll old text new
-emitted old new (Ok x) text fresh short m = whole_written old new text fresh m.made
-emitted old new (Err (Printer e)) text fresh short m = absurd (never_broken old new e text fresh short m.made)
-emitted old new (Err _) text fresh short m = absurd m.made
+emitted : (old new : Copier) (r : Result (Unit {0}) Error) (text : List ℕ) → IsFresh old → 200 ≤ old.limit → IsShort text → Made copied_meaning old new (outcome r) (Text text ∷ []) → HasAll old text new
+emitted old new (Ok x) text fresh roomy short m = whole_written old new text fresh m.made
+emitted old new (Err (Printer e)) text fresh roomy short m = absurd (never_broken old new e text fresh roomy short m.made)
+emitted old new (Err _) text fresh roomy short m = absurd m.made
 
-pub described : (old new : Copier) (r : Result (Unit {0}) Error) (status detail : ℕ) → old.written ≡ 0 → old.count ≡ 0 →
+pub described : (old new : Copier) (r : Result (Unit {0}) Error) (status detail : ℕ) → old.written ≡ 0 → old.count ≡ 0 → 200 ≤ old.limit →
     Made copied_meaning old new (outcome r) (Text (message status detail) ∷ []) → HasAll old (message status detail) new
-described old new r status detail text lines m =
-    emitted old new r (message status detail) (record { text = text; lines = lines }) (short_message status detail) m
+described old new r status detail text lines roomy m =
+    emitted old new r (message status detail) (record { text = text; lines = lines }) roomy (short_message status detail) m

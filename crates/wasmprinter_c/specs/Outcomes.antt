@@ -1,5 +1,5 @@
 -- The outcome of a call that prints a module.
-use Rattle.std.specs.Prelude.{◌≡◌, ◌↔◌, ◌⊎◌, ℕ, List}
+use Rattle.std.specs.Prelude.{◌≡◌, ◌↔◌, ◌≤◌, ◌⊎◌, ℕ, List}
 use Rattle.std.specs.Str.{IsUtf8}
 use Rattle.wasmprinter_spec.specs.Binary.{IsComponent}
 use Rattle.wasmprinter_spec.specs.Options.{Options}
@@ -21,13 +21,15 @@ pub record DoesNothing (b : Buffers) (detail : ℕ) (stored : WasmprinterResult)
   pub unlisted : stored.count ≡ 0
   pub detailed : stored.detail ≡ detail
 
--- The outcome of a call that prints a module, if the flags have no unknown bit.
-pub record IsOutcome (o : Options) (bytes : List ℕ) (b : Buffers) (outcome : Outcome) : Type 0 where
+-- The outcome of a call that prints a text of at most `limit` bytes, if the flags have no unknown bit.
+pub record IsOutcome (o : Options) (bytes : List ℕ) (limit : ℕ) (b : Buffers) (outcome : Outcome) : Type 0 where
   -- If the status is `ok_status`, the module was printed: the buffer has the first bytes of its text and the table
   -- has its first lines, as many as fit.
   pub printed : outcome.status ≡ ok_status → HasLinesOver o bytes b outcome.length outcome.count
+  -- If the status is `ok_status`, the text is not longer than the limit.
+  pub short : outcome.status ≡ ok_status → outcome.length ≤ limit
   -- Any status except `ok_status` and `indent_status` is the number of an error for which the module was refused.
-  pub refused : ¬ (outcome.status ≡ ok_status) → ¬ (outcome.status ≡ indent_status) → IsRefusedWith o bytes b.old b.new outcome
+  pub refused : ¬ (outcome.status ≡ ok_status) → ¬ (outcome.status ≡ indent_status) → IsRefusedWith o bytes limit b outcome
   -- The status is `component_status` if and only if the bytes are marked as a component.
   pub component : (outcome.status ≡ component_status) ↔ IsComponent bytes
   -- The status is `indent_status` if and only if the indent is not UTF-8 and the bytes are not marked as a component.

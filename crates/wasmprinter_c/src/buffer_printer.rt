@@ -1,6 +1,6 @@
-//! A printer that writes over a buffer and a table of the caller. It keeps what fits, and counts all bytes and
-//! lines.
-ghost use Rattle.std.specs.Prelude.{◌≡◌, ◌+◌, ◌^◌, ◌≤◌, ◌∷◌, [], false, length, OnOk, OnErr};
+//! A printer that writes over a buffer and a table of the caller. It keeps what fits, counts all bytes and lines, and
+//! fails before the text gets longer than a limit.
+ghost use Rattle.std.specs.Prelude.{◌≡◌, ◌+◌, ◌<◌, ◌∷◌, [], false, length, OnOk, OnErr};
 ghost use Rattle.wasmprinter_c.specs.Over.{over_from};
 ghost use Rattle.wasmprinter_c.specs.Copied.{Grows, Starts, copied_meaning};
 ghost use Rattle.wasmprinter_c.specs.Lines.{entry};
@@ -22,11 +22,13 @@ pub struct WasmprinterLine {
     pub has_place: u32,
 }
 
-/// A printer that writes over a buffer and a table. It keeps what fits, and counts all bytes and lines.
+/// A printer that writes over a buffer and a table. It keeps what fits, and counts all bytes and lines. The text has at
+/// most `limit` bytes.
 #[derive(Drop)]
 pub(crate) struct Copier<'a> {
     out: &'a mut [u8],
     written: usize,
+    limit: usize,
     lines: &'a mut [WasmprinterLine],
     count: usize,
 }
@@ -73,18 +75,24 @@ fn copy_over(out: &mut [u8], place: usize, piece: &[u8])
 }
 
 impl<'a> Copier<'a> {
-    /// Returns a printer over a buffer and a table. Nothing is written yet.
-    pub(crate) fn new(out: &'a mut [u8], lines: &'a mut [WasmprinterLine]) -> Copier<'a>
+    /// Returns a printer over a buffer and a table, for a text of at most `limit` bytes. Nothing is written yet.
+    pub(crate) fn new(
+        limit: usize,
+        out: &'a mut [u8],
+        lines: &'a mut [WasmprinterLine],
+    ) -> Copier<'a>
         ensures same_buffer { result.out.ghost_name ≡ out.entry.ghost_name }
         ensures same_table { result.lines.ghost_name ≡ lines.entry.ghost_name }
         ensures kept_buffer { result.out.now ≡ out.old }
         ensures kept_table { result.lines.now ≡ lines.old }
         ensures no_text { result.written ≡ 0 }
         ensures no_line { result.count ≡ 0 }
+        ensures limited { result.limit ≡ limit }
     {
         Copier {
             out,
             written: 0,
+            limit,
             lines,
             count: 0,
         }
@@ -118,19 +126,19 @@ impl<'a> Copier<'a> {
     ///
     /// # Errors
     ///
-    /// Returns an error if the text has more than `usize::MAX` bytes. Nothing is written then.
+    /// Returns an error if the text would be longer than the limit. Nothing is written then.
     fn append(&mut self, piece: &[u8]) -> io::Result<()>
         ensures ok { OnOk result (Grows self.old piece.now self.new) }
-        ensures may_fail { OnErr result (2 ^ 64 ≤ self.old.written + length piece.now) }
+        ensures may_fail { OnErr result (self.old.limit < self.old.written + length piece.now) }
         ensures unchanged { OnErr result (self.new ≡ self.old) }
     {
         match self.written.checked_add(piece.len()) {
-            Some(written) => {
+            Some(written) if written <= self.limit => {
                 copy_over(self.out, self.written, piece);
                 self.written = written;
                 Ok(())
             }
-            None => Err(io::Error::from(ErrorKind::Other)),
+            _ => Err(io::Error::from(ErrorKind::Other)),
         }
     }
 }

@@ -125,7 +125,8 @@ fn indented(alloc: Global, flags: u32, indent: &str) -> Result<Config, AllocErro
     Ok(config)
 }
 
-/// Prints a module to a printer over a buffer, to which nothing was printed before.
+/// Prints a module to a printer over a buffer, to which nothing was printed before. The text has at most as many bytes
+/// as the printer's limit.
 fn print_to(
     alloc: Global,
     config: &Config,
@@ -139,7 +140,8 @@ fn print_to(
     ensures printed { OnOk result (HasLinesOver config.now wasm.now
         (buffers copier.old.out.now copier.new.out.now copier.old.lines.now copier.new.lines.now)
         copier.new.written copier.new.count) }
-    ensures refused { IfErr result (IsBufferRefusal config.now wasm.now) }
+    ensures short { OnOk result (copier.new.written ≤ copier.old.limit) }
+    ensures refused { IfErr result (IsBufferRefusal config.now wasm.now copier.old.limit) }
     ensures left { IfErr result (λ e. LeavesBuffer config.now wasm.now e copier.old.out.now copier.new.out.now) }
     ensures component { IsErrOf result Error.Component ↔ IsComponent wasm.now }
 {
@@ -147,21 +149,23 @@ fn print_to(
 }
 
 /// Prints the first bytes and the first lines, as many as fit, and returns the length and the number of lines of
-/// the whole text.
+/// the whole text. Returns an error if the text has more than `limit` bytes.
 fn print_over(
     alloc: Global,
     config: &Config,
     wasm: &[u8],
+    limit: usize,
     out: &mut [u8],
     lines: &mut [WasmprinterLine],
 ) -> Result<Extent, Error>
     ensures printed { IfOk result (λ x.
         HasLinesOver config.now wasm.now (buffers out.old out.new lines.old lines.new) x.length x.count) }
-    ensures refused { IfErr result (IsBufferRefusal config.now wasm.now) }
+    ensures short { IfOk result (λ x. x.length ≤ limit) }
+    ensures refused { IfErr result (IsBufferRefusal config.now wasm.now limit) }
     ensures left { IfErr result (λ e. LeavesBuffer config.now wasm.now e out.old out.new) }
     ensures component { IsErrOf result Error.Component ↔ IsComponent wasm.now }
 {
-    let mut copier = Copier::new(out, lines);
+    let mut copier = Copier::new(limit, out, lines);
     print_to(alloc, config, wasm, &mut copier)?;
     Ok(Extent {
         length: copier.length(),
@@ -182,16 +186,17 @@ fn refused(error: &Error) -> Outcome
 }
 
 /// Prints a module with the options that the flags choose: the first bytes of its text and its first lines, as many
-/// as fit. A component is reported before an invalid indent.
+/// as fit. The text has at most `limit` bytes. A component is reported before an invalid indent.
 fn print_by(
     alloc: Global,
     wasm: &[u8],
     flags: u32,
     indent: &[u8],
+    limit: usize,
     out: &mut [u8],
     lines: &mut [WasmprinterLine],
 ) -> Outcome
-    ensures { IsOutcome (options_of flags indent.now) wasm.now (buffers out.old out.new lines.old lines.new) result }
+    ensures { IsOutcome (options_of flags indent.now) wasm.now limit (buffers out.old out.new lines.old lines.new) result }
 {
     if is_component(wasm) {
         return refused(&Error::Component);
@@ -207,7 +212,7 @@ fn print_by(
     let Ok(config) = indented(alloc, flags, indent) else {
         return refused(&Error::Memory);
     };
-    match print_over(alloc, &config, wasm, out, lines) {
+    match print_over(alloc, &config, wasm, limit, out, lines) {
         Ok(extent) => Outcome {
             status: PRINTED,
             length: extent.length,
@@ -223,7 +228,7 @@ fn print_by(
 /// error.
 ///
 /// The bits of `flags` choose options: bit 0 offsets, bit 1 the skeleton, bit 2 synthesized identifiers, bit 3 folded
-/// operators. Stores in `extent` the length of the whole text and the number of its lines, or 0 after an error, and
+/// operators. The text has at most `limit` bytes: printing stops before it gets longer. Stores in `extent` the length of the whole text and the number of its lines, or 0 after an error, and
 /// the detail of an error, or 0 if there is none. The text was truncated if it is longer than `out`.
 ///
 /// # Errors
@@ -240,7 +245,7 @@ fn print_by(
 /// - 7, only if operators are folded: folded text has nowhere to put a branch hint. The detail is the place of the
 ///   hint.
 /// - 8: a custom section `dylink.0` has an unknown subsection. The detail is its id.
-/// - 10: the text has more than `usize::MAX` bytes.
+/// - 10: the text has more than `limit` bytes.
 /// - 11: an allocation failed.
 ///
 /// After the errors 8, 10 and, if operators are folded, 11, `out` may hold a prefix of the text. After any other error
@@ -251,6 +256,7 @@ pub extern "C" fn wasmprinter_raw_print(
     wasm: &[u8],
     flags: u32,
     indent: &[u8],
+    limit: usize,
     out: &mut [u8],
     lines: &mut [WasmprinterLine],
     extent: &mut WasmprinterResult,
@@ -258,7 +264,7 @@ pub extern "C" fn wasmprinter_raw_print(
     ensures unknown { result ≡ option_status ↔ HasUnknownBit flags }
     ensures nothing { HasUnknownBit flags → DoesNothing (buffers out.old out.new lines.old lines.new) (unknown_bits flags) extent.new }
     ensures outcome { ¬ HasUnknownBit flags →
-        IsOutcome (options_of flags indent.now) wasm.now (buffers out.old out.new lines.old lines.new) (outcome_with result extent.new) }
+        IsOutcome (options_of flags indent.now) wasm.now limit (buffers out.old out.new lines.old lines.new) (outcome_with result extent.new) }
 {
     if flags >= FIRST_UNKNOWN {
         extent.length = 0;
@@ -266,7 +272,7 @@ pub extern "C" fn wasmprinter_raw_print(
         extent.detail = u64::from(flags / FIRST_UNKNOWN * FIRST_UNKNOWN);
         return UNKNOWN_OPTION;
     }
-    let outcome = print_by(alloc, wasm, flags, indent, out, lines);
+    let outcome = print_by(alloc, wasm, flags, indent, limit, out, lines);
     extent.length = outcome.length;
     extent.count = outcome.count;
     extent.detail = outcome.detail;
@@ -278,12 +284,13 @@ pub extern "C" fn wasmprinter_raw_print(
 fn write_description(copier: &mut Copier<'_>, status: u32, detail: u64)
     requires no_text { copier.old.written ≡ 0 }
     requires no_line { copier.old.count ≡ 0 }
+    requires roomy { 200 ≤ copier.old.limit }
     ensures same_buffer { copier.new.out.ghost_name ≡ copier.old.out.ghost_name }
     ensures same_table { copier.new.lines.ghost_name ≡ copier.old.lines.ghost_name }
     ensures copied { copier.new.out.now ≡ over (message status detail) copier.old.out.now }
     ensures counted { copier.new.written ≡ length (message status detail) }
 {
-    // This can't fail: a description is shorter than `usize::MAX`.
+    // This can't fail: a description has at most 200 bytes.
     let _ = describe(copier, status, detail);
 }
 
@@ -296,7 +303,7 @@ pub extern "C" fn wasmprinter_raw_error_text(status: u32, detail: u64, out: &mut
     ensures short { result ≤ 200 }
     ensures copied { out.new ≡ over (message status detail) out.old }
 {
-    let mut copier = Copier::new(out, &mut []);
+    let mut copier = Copier::new(usize::MAX, out, &mut []);
     write_description(&mut copier, status, detail);
     copier.length()
 }

@@ -1,5 +1,5 @@
 -- The state of the printer over a buffer after the calls.
-use Rattle.wasmprinter_c.proofs.Runs.{on_ok_over}
+use Rattle.wasmprinter_c.proofs.Runs.{on_ok_over, on_ok_short}
 use Rattle.wasmprinter_c.proofs.Left.{either_same, if_err_refusal, if_err_left}
 use Rattle.wasmprinter_c.proofs.print_to.Goals as goal
 
@@ -14,6 +14,10 @@ returns-clause-same_table c =
 pub returns-clause-printed : goal.returns-clause-printed
 returns-clause-printed c =
     on_ok_over c.args.config.now c.args.wasm.now c.args.copier.now c.print.new.printer c.print.result (record { text = c.requires.no_text; lines = c.requires.no_line }) c.print.ensures.printed
+
+pub returns-clause-short : goal.returns-clause-short
+returns-clause-short c =
+    on_ok_short c.args.config.now c.args.wasm.now c.args.copier.now c.print.new.printer c.print.result (record { text = c.requires.no_text; lines = c.requires.no_line }) c.print.ensures.printed
 
 pub returns-clause-refused : goal.returns-clause-refused
 returns-clause-refused c =
