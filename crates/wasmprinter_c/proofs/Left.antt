@@ -16,7 +16,7 @@ use Rattle.wasmprinter.proofs.Prefixes.{failed_puts, stopped_puts, refused_puts}
 use Rattle.wasmprinter.proofs.Texts.{first_unclaimed}
 use Rattle.wasmprinter_c.specs.Over.{over}
 use Rattle.wasmprinter_c.specs.Copied.{copied_meaning}
-use Rattle.wasmprinter_c.specs.Lines.{entries}
+use Rattle.wasmprinter_c.specs.Events.{events}
 use Rattle.wasmprinter_c.specs.Refused.{IsTooLong, HasBufferCause, IsBufferRefusal, LeavesBuffer}
 use Rattle.wasmprinter_c.specs.declared.buffer_printer.Copier.{Copier}
 use Rattle.wasmprinter_c.proofs.Runs.{copying, HasCopied, IsFresh, run_copied, claims_never}
@@ -27,7 +27,7 @@ module _ (old : Copier) (fresh : IsFresh old) where
   -- If a call failed, the text of the layout is longer than the limit.
   pub broken_long : (new : Copier) (x : IoError) (l : List Call) → Broken copied_meaning old new x l → old.limit < length (text_of l)
   broken_long new x l b =
-      let has : HasCopied old (text_of b.calls) (entries 0 b.calls) b.before = run_copied old b.before b.calls fresh b.run in
+      let has : HasCopied old (text_of b.calls) (events old.all_events 0 b.calls) b.before = run_copied old b.before b.calls fresh b.run in
       let n₁ = ap length (broken_parts copied_meaning old new x l b) in
       let n₂ = length-append (text_of b.calls) (call_text b.call ++ text_of b.rest) in
       let n₃ = length-append (call_text b.call) (text_of b.rest) in
@@ -101,15 +101,15 @@ module _ (old : Copier) (fresh : IsFresh old) where
 
   pub record AreSame (new : Copier) : Type 0 where
     pub buffer : new.out.ghost_name ≡ old.out.ghost_name
-    pub table : new.lines.ghost_name ≡ old.lines.ghost_name
+    pub table : new.table.ghost_name ≡ old.table.ghost_name
 
   run_same : (new : Copier) (calls : List Call) → Run copied_meaning old calls new → AreSame new
   run_same new calls r =
-      let has : HasCopied old (text_of calls) (entries 0 calls) new = run_copied old new calls fresh r in
+      let has : HasCopied old (text_of calls) (events old.all_events 0 calls) new = run_copied old new calls fresh r in
       record { buffer = has.same_buffer; table = has.same_table }
 
   unchanged_same : (new : Copier) → new ≡ old → AreSame new
-  unchanged_same new e = record { buffer = ap (λ (c : Copier). c.out.ghost_name) e; table = ap (λ (c : Copier). c.lines.ghost_name) e }
+  unchanged_same new e = record { buffer = ap (λ (c : Copier). c.out.ghost_name) e; table = ap (λ (c : Copier). c.table.ghost_name) e }
 
   module _ (o : Options) (bytes : List ℕ) (new : Copier) where
     memory_same : LeavesBeginning (copying old new) false o bytes → AreSame new

@@ -11,7 +11,7 @@ use Rattle.wasmprinter.specs.Decoded.{Decoded}
 use Rattle.wasmprinter.specs.Outcome.{HasPrintReason, print_reasons, causes, FirstIsUnknown, MayGrow, IsSoundRefusal}
 use Rattle.wasmprinter.specs.Prefix.{PutsPrefix, PutsTextBefore}
 use Rattle.wasmprinter_c.specs.Over.{over}
-use Rattle.wasmprinter_c.specs.Printing.{Buffers}
+use Rattle.wasmprinter_c.specs.Printing.{Request, Buffers}
 use Rattle.wasmprinter_c.specs.declared.Outcome.{Outcome}
 
 -- The number of an error.
@@ -88,7 +88,7 @@ LeavesBuffer o bytes Memory old new = (new ≡ old) ⊎ ((o.folds ≡ true) × P
 LeavesBuffer o bytes e old new = new ≡ old
 
 -- The module was refused with this outcome.
-pub record IsRefusedWith (o : Options) (bytes : List ℕ) (limit : ℕ) (b : Buffers) (outcome : Outcome) : Type 0 where
+pub record IsRefusedWith (r : Request) (bytes : List ℕ) (b : Buffers) (outcome : Outcome) : Type 0 where
   -- The error.
   pub error : Error
   -- The status is its number.
@@ -96,12 +96,12 @@ pub record IsRefusedWith (o : Options) (bytes : List ℕ) (limit : ℕ) (b : Buf
   -- The detail is its place, count or id, or 0 if it has none.
   pub detailed : outcome.detail ≡ detail_in error
   -- It is true of the bytes, or the indent was not copied because an allocation failed.
-  pub is_so : IsTrueOrUncopied o bytes error
+  pub is_so : IsTrueOrUncopied r.options bytes error
   -- If the bytes encode a module, it has one of the causes of `HasBufferCause`.
-  pub caused : HasBufferCause o bytes limit error
+  pub caused : HasBufferCause r.options bytes r.limit error
   -- The buffer has the contents that the error leaves.
-  pub left : LeavesBuffer o bytes error b.old b.new
+  pub left : LeavesBuffer r.options bytes error b.old b.new
   -- The length of the text is given as 0.
   pub uncounted : outcome.length ≡ 0
-  -- The number of lines is given as 0.
+  -- The number of events is given as 0.
   pub unlisted : outcome.count ≡ 0
