@@ -1,6 +1,6 @@
 -- A text that is cut at the starts of its lines has the lines of its calls.
 use Rattle.std.proofs.Common.{◌≡◌, ℕ, ◌+◌, ◌-◌, List, [], ◌∷◌, ◌++◌, length, take, drop, refl, sym, ap, ap₂, ◌∙◌, append_assoc, length-append, arith}
-use Rattle.std.specs.Prelude.{Option, Some, None, map}
+use Rattle.std.specs.Prelude.{false, Option, Some, None, map}
 use Rattle.wasmprinter_spec.specs.Call.{Call, Text, Newline, Line, Start, Claim, text_of}
 use Rattle.wasmprinter_spec.specs.Lines.{TextLine, lines_of, text_before_line, joined_lines}
 use Rattle.wasmprinter_writers.specs.Cuts.{lines_at_starts, first_at}
