@@ -3,7 +3,7 @@ use Rattle.std.proofs.Common.{◌≡◌, ℕ, ◌+◌, List, [], ◌∷◌, leng
 use Rattle.std.specs.Prelude.{Bool, true, false, Some, None}
 use Rattle.std.specs.List.{filter}
 use Rattle.wasmprinter_spec.specs.Call.{Call, Style, Text, Newline, Line, Start, Claim, Literal, Name, Keyword, TypeName, Comment, Reset}
-use Rattle.wasmprinter_c.specs.Events.{event, line_event, style_kind, events, is_line}
+use Rattle.wasmprinter_c.specs.Events.{event, style_kind, events, is_line}
 use Rattle.wasmprinter_c.specs.declared.buffer_printer.WasmprinterEvent.{WasmprinterEvent}
 
 -- An event of a style is left out.
