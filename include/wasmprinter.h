@@ -71,6 +71,7 @@ enum {
 typedef struct WasmprinterOptions {
     uint32_t flags;          /* the sum of WASMPRINTER_OFFSETS and the others */
     WasmprinterBytes indent; /* the text of one level of nesting, in UTF-8; two spaces if `ptr` is null */
+    size_t limit;            /* the greatest length of the text in bytes; 0: no limit */
 } WasmprinterOptions;
 
 /* The statuses. Each error stores a detail, which is 0 unless stated otherwise. */
@@ -86,7 +87,7 @@ enum {
     WASMPRINTER_FOLD_HINT = 7,          /* only with WASMPRINTER_FOLD: a branch hint that has no position in folded text; detail: its place */
     WASMPRINTER_DYLINK_SUBSECTION = 8,  /* an unknown subsection of `dylink.0`; detail: the id of the first */
     WASMPRINTER_UNREADABLE = 9,         /* never returned: no function reads a file */
-    WASMPRINTER_TOO_LONG = 10,          /* the text has more than SIZE_MAX bytes */
+    WASMPRINTER_TOO_LONG = 10,          /* the text is longer than the limit or, without a limit, than SIZE_MAX */
     WASMPRINTER_MEMORY = 11,            /* an allocation failed */
     WASMPRINTER_INVALID_INDENT = 12,    /* the indent is not UTF-8 */
     WASMPRINTER_UNKNOWN_OPTION = 13     /* the flags have bits that this library does not know; detail: these bits */
@@ -122,10 +123,11 @@ typedef struct WasmprinterTable {
 
 /* ---- The exported functions. The functions below call them, and are easier to call. */
 
-/* Prints a module, as wasmprinter_print_lines does. `flags` are the options. No pointer may be null, even if its length is 0. */
+/* Prints a module, as wasmprinter_print_lines does. `flags` are the options. `limit` is the greatest length of the text, and SIZE_MAX means no
+ * limit. With limit 0 every module that would be printed gives WASMPRINTER_TOO_LONG. No pointer may be null, even if its length is 0. */
 WASMPRINTER_NONNULL WasmprinterStatus wasmprinter_raw_print(const uint8_t *wasm, size_t wasm_len, uint32_t flags, const uint8_t *indent,
-                                                            size_t indent_len, uint8_t *out, size_t out_len, WasmprinterLine *lines,
-                                                            size_t lines_len, WasmprinterResult *result);
+                                                            size_t indent_len, size_t limit, uint8_t *out, size_t out_len,
+                                                            WasmprinterLine *lines, size_t lines_len, WasmprinterResult *result);
 
 /* Writes the description of a status with its detail to `out`: as many of its first bytes as fit. Returns the length of the whole
  * description. `out` may not be null. Allocates nothing. */
@@ -167,8 +169,13 @@ WASMPRINTER_INLINE WasmprinterBuffer wasmprinter_buffer(char *ptr, size_t len) {
  *
  * Returns WASMPRINTER_OK or the number of an error. If several errors apply, WASMPRINTER_UNKNOWN_OPTION is returned first, then
  * WASMPRINTER_COMPONENT, then WASMPRINTER_INVALID_INDENT, then any other. After WASMPRINTER_DYLINK_SUBSECTION, WASMPRINTER_TOO_LONG and,
- * with WASMPRINTER_FOLD, WASMPRINTER_MEMORY, `out` may hold a prefix of the text. After any other error it is unchanged. After an error
- * the entries of `lines` are not specified.
+ * with WASMPRINTER_FOLD, WASMPRINTER_MEMORY, `out` may hold a prefix of the text, which is not longer than the limit; the bytes after the
+ * prefix are unchanged. After any other error `out` is unchanged. After an error the entries of `lines` are not specified.
+ *
+ * The limit and out.len are independent. A text that is not longer than the limit is printed as without a limit. For any other text,
+ * printing stops with WASMPRINTER_TOO_LONG before the text gets longer than the limit. The whole module is decoded before printing starts,
+ * so the errors after which `out` is unchanged do not depend on the limit. With WASMPRINTER_FOLD the text of one body's operators is
+ * collected before it is written, so the limit does not bound this memory.
  *
  * With an indent of spaces and tabs the text consists of printable ASCII characters, tabs and line feeds. If also
  * WASMPRINTER_SKELETON is not chosen, and every index that the module uses is declared and names an item of the right kind, the text
@@ -184,9 +191,11 @@ WASMPRINTER_INLINE WasmprinterStatus wasmprinter_print_lines(WasmprinterBytes wa
     void *text = out.ptr;
     size_t indent_len = sizeof default_indent;
     size_t bytes_len = wasm.len;
+    size_t limit = SIZE_MAX;
     uint32_t flags = 0;
     if (options != NULL) {
         flags = options->flags;
+        limit = options->limit != 0 ? options->limit : SIZE_MAX;
         if (options->indent.ptr != NULL) {
             indent = options->indent.ptr;
             indent_len = options->indent.len;
@@ -206,9 +215,10 @@ WASMPRINTER_INLINE WasmprinterStatus wasmprinter_print_lines(WasmprinterBytes wa
     }
 #ifdef __cplusplus
     return wasmprinter_raw_print(static_cast<const uint8_t *>(bytes), bytes_len, flags, static_cast<const uint8_t *>(indent), indent_len,
-                                 static_cast<uint8_t *>(text), out.len, lines.ptr, lines.len, result != NULL ? result : &own_result);
+                                 limit, static_cast<uint8_t *>(text), out.len, lines.ptr, lines.len,
+                                 result != NULL ? result : &own_result);
 #else
-    return wasmprinter_raw_print(bytes, bytes_len, flags, indent, indent_len, text, out.len, lines.ptr, lines.len,
+    return wasmprinter_raw_print(bytes, bytes_len, flags, indent, indent_len, limit, text, out.len, lines.ptr, lines.len,
                                  result != NULL ? result : &own_result);
 #endif
 }
@@ -228,7 +238,8 @@ typedef void *(*WasmprinterResize)(void *context, void *block, size_t len);
 /* Prints the text of a module to memory from `resize`, and stores it in `text`. The text ends with a zero byte, which text->len does not
  * count. With the default options nearly every module is printed once. It is printed again if its text is longer than expected.
  *
- * `resize` is called with `context`. If `resize` is null, realloc is used, and the caller frees text->ptr with free.
+ * `resize` is called with `context` and, if there is a limit, with a length of at most options->limit + 1. If `resize` is null, realloc is used,
+ * and the caller frees text->ptr with free.
  *
  * text->ptr must be null, or a block of an earlier call with the same `resize` and `context`, which is used again. After an error text->ptr holds
  * the block, if there is one, as an empty string, and text->len is 0. So the caller frees text->ptr in any case. The block is not shortened to
@@ -241,6 +252,9 @@ WASMPRINTER_INLINE WasmprinterStatus wasmprinter_print_alloc(WasmprinterBytes wa
     WasmprinterResult own_result = {0, 0, 0};
     size_t room = wasm.ptr != NULL && wasm.len < SIZE_MAX / (2 * expected) ? wasm.len * expected + least : least;
     int is_measured = 0;
+    if (options != NULL && options->limit != 0 && options->limit < room) {
+        room = options->limit;
+    }
     if (result == NULL) {
         result = &own_result;
     }

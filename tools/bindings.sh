@@ -1,8 +1,8 @@
 #!/bin/sh
 # Tests the bindings in bindings/: builds the library, and checks in C, C++, Rust and Python that every case of bindings/cases.txt prints as
 # typed. In C and C++ it also checks the inline functions of the header without the library (wrappers.c), lets allocations fail (memory.c), prints
-# between guard pages (guard.c) and in many threads (threads.c). Uses the machine's `cc`, `c++`, `cargo --offline` and `python3`. Fails if one of
-# them is missing or if a case differs.
+# between guard pages (guard.c), with limits (limit.c) and in many threads (threads.c). Uses the machine's `cc`, `c++`, `cargo --offline` and
+# `python3`. Fails if one of them is missing or if a case differs.
 set -eu
 cd "$(dirname "$0")/.."
 for tool in cc c++ cargo python3; do
@@ -33,6 +33,7 @@ tested test "$library"
 tested wrappers
 tested memory "$counted" "$library"
 tested guard "$library"
+tested limit "$library"
 tested threads -pthread "$library"
 for standard in 17 20; do
     c++ -std=c++$standard $flags -Ibindings/cpp bindings/cpp/test.cpp "$counted" "$library" -o "$work/test_hpp"

@@ -77,4 +77,20 @@ static inline bool is_over(const void *buffer, size_t len, size_t room, const vo
     return memcmp(buffer, text, fits) == 0 && is_unchanged(buffer, fits, len);
 }
 
+/* Returns whether a buffer holds a prefix of a text, of at most `most` bytes, and the other bytes are unchanged. */
+static inline bool is_prefix(const void *buffer, size_t len, size_t most, const void *text, size_t length) {
+    const uint8_t *bytes = (const uint8_t *)buffer, *expected = (const uint8_t *)text;
+    size_t held = 0;
+    while (held < most && held < len && held < length && bytes[held] == expected[held]) {
+        held++;
+    }
+    return is_unchanged(buffer, held, len);
+}
+
+/* The outcome of a print whose text is longer than the limit. */
+static inline Outcome too_long(void) {
+    Outcome outcome = {WASMPRINTER_TOO_LONG, {0, 0, 0}};
+    return outcome;
+}
+
 #endif

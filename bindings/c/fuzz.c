@@ -1,4 +1,4 @@
-/* A target for libFuzzer: prints any bytes with any options, whole, truncated, with lines and to allocated memory, and checks that the
+/* A target for libFuzzer: prints any bytes with any options, whole, truncated, limited, with lines and to allocated memory, and checks that the
  * results are as the header says. The first byte of the input chooses the options and an unknown option, and the second one the indent.
  *
  * clang -fsanitize=fuzzer,address,undefined -Iinclude bindings/c/fuzz.c libwasmprinter.a */
@@ -60,6 +60,22 @@ static void check_half(const Input *input, const uint8_t *text, Outcome whole) {
     free(half);
 }
 
+/* Prints with limits of all, of half and of all but the last byte of a text. */
+static void check_limits(Input input, const uint8_t *text, Outcome whole) {
+    const size_t length = whole.stored.length, limits[] = {length, length / 2, length - 1};
+    for (size_t i = 0; i < sizeof limits / sizeof limits[0]; i++) {
+        uint8_t *out = (uint8_t *)guarded(length);
+        input.options.limit = limits[i];
+        Outcome outcome = print_text(&input, out, length);
+        if (limits[i] < length) {
+            require(is_same(outcome, too_long()) && is_prefix(out, length, limits[i], text, length));
+        } else {
+            require(is_same(outcome, whole) && memcmp(out, text, length) == 0);
+        }
+        free(out);
+    }
+}
+
 /* Prints to allocated memory. */
 static void check_alloc(const Input *input, const uint8_t *text, Outcome whole) {
     WasmprinterBuffer again = {NULL, 0};
@@ -95,6 +111,7 @@ static void check_text(const Input *input, Outcome measured) {
     uint8_t *text = (uint8_t *)guarded(length);
     require(is_same(print_text(input, text, length), measured) && text[length - 1] == '\n');
     check_half(input, text, measured);
+    check_limits(*input, text, measured);
     check_alloc(input, text, measured);
     check_lines(input, text, measured);
     free(text);
@@ -116,7 +133,7 @@ int LLVMFuzzerTestOneInput(const uint8_t *data, size_t size) {
     }
     const size_t indent = data[1] % (sizeof INDENTS / sizeof INDENTS[0]);
     const uint32_t known = data[0] & ALL_OPTIONS;
-    const Input input = {{data + CHOICES, size - CHOICES}, {known, {INDENTS[indent].text, INDENTS[indent].len}}};
+    const Input input = {{data + CHOICES, size - CHOICES}, {known, {INDENTS[indent].text, INDENTS[indent].len}, 0}};
     check_unknown(input, (ALL_OPTIONS + 1u) << data[0] / (ALL_OPTIONS + 1));
     Outcome measured = print_text(&input, NULL, 0);
     if (measured.status != WASMPRINTER_OK) {

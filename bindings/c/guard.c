@@ -1,4 +1,4 @@
-/* guard: prints every prefix of a module, with every size of buffer and of table. Each object that a call is given is next to a page that
+/* guard: prints every prefix of a module, with every size of buffer, of table and of limit. Each object that a call is given is next to a page that
  * can't be accessed, once before and once after it: a read or write outside of the objects ends the program with a signal. For Linux, in
  * C99 and C++. */
 #define _DEFAULT_SOURCE /* for MAP_ANONYMOUS */
@@ -115,6 +115,7 @@ typedef struct Objects {
     uint32_t flags;
     const uint8_t *indent;
     size_t indent_len;
+    size_t limit;
     uint8_t *out;
     size_t out_len;
     WasmprinterLine *lines;
@@ -123,7 +124,7 @@ typedef struct Objects {
 
 /* Returns the objects of a call with input at an end of its pages. */
 static Objects objects(const void *wasm, size_t wasm_len, const void *indent, size_t indent_len, End end) {
-    Objects placed = {end, NULL, wasm_len, 0, NULL, indent_len, NULL, 0, NULL, 0};
+    Objects placed = {end, NULL, wasm_len, 0, NULL, indent_len, SIZE_MAX, NULL, 0, NULL, 0};
     placed.wasm = place_input(pages.wasm, wasm, wasm_len, end);
     placed.indent = place_input(pages.indent, indent, indent_len, end);
     return placed;
@@ -140,8 +141,8 @@ static Outcome print_objects(Objects *placed, size_t out_len, size_t lines_len) 
     memset(placed->out, GUARD, out_len);
     memset(placed->lines, GUARD, lines_len * sizeof *placed->lines);
     *stored = outcome.stored;
-    outcome.status = wasmprinter_raw_print(placed->wasm, placed->wasm_len, placed->flags, placed->indent, placed->indent_len, placed->out,
-                                           out_len, placed->lines, lines_len, stored);
+    outcome.status = wasmprinter_raw_print(placed->wasm, placed->wasm_len, placed->flags, placed->indent, placed->indent_len, placed->limit,
+                                           placed->out, out_len, placed->lines, lines_len, stored);
     outcome.stored = *stored;
     prints++;
     return outcome;
@@ -201,6 +202,31 @@ static void check_prefix(size_t len, End end) {
     }
 }
 
+/* Checks a print of a prefix that is a module, with a limit. */
+static bool check_limited(const Objects *placed, Outcome outcome, const Prefix *prefix) {
+    if (strlen(prefix->text) <= placed->limit) {
+        return check_printed(placed, outcome, prefix);
+    }
+    return expect(is_same(outcome, too_long()), "guard", "outcome of a text that is too long") &&
+           expect(is_prefix(placed->out, placed->out_len, placed->limit, prefix->text, strlen(prefix->text)), "guard",
+                  "prefix of a text that is too long");
+}
+
+/* Prints a prefix with every limit up to two bytes more than its text, and every size of buffer. The table is empty or has room for all
+ * lines. */
+static void check_limits(size_t len, End end) {
+    const Prefix *prefix = find_printed(len);
+    const size_t most = prefix != NULL ? strlen(prefix->text) + 2 : 2;
+    Objects placed = objects(MODULE, len, "  ", 2, end);
+    bool is_right = true;
+    for (placed.limit = 0; is_right && placed.limit <= most; placed.limit++) {
+        for (size_t out_len = 0; is_right && out_len <= most; out_len++) {
+            Outcome outcome = print_objects(&placed, out_len, out_len % 2 == 0 ? 0 : MOST_LINES);
+            is_right = prefix != NULL ? check_limited(&placed, outcome, prefix) : check_malformed(&placed, outcome);
+        }
+    }
+}
+
 /* Prints the module with a set of options and every size of buffer. */
 static void check_options(uint32_t flags, End end) {
     Objects placed = objects(MODULE, sizeof MODULE, "  ", 2, end);
@@ -210,6 +236,14 @@ static void check_options(uint32_t flags, End end) {
     for (size_t out_len = 0; is_right && out_len <= whole.stored.length; out_len++) {
         is_right = expect(is_same(print_objects(&placed, out_len, whole.stored.count), whole), "guard", "outcome with options");
     }
+    for (placed.limit = 0; is_right && placed.limit < whole.stored.length; placed.limit++) {
+        is_right = expect(is_same(print_objects(&placed, whole.stored.length, whole.stored.count), too_long()), "guard",
+                          "outcome with options and a limit");
+    }
+    is_right = is_right && expect(is_same(print_objects(&placed, 0, 0), whole), "guard", "outcome with options and the least limit");
+    placed.limit = 0;
+    placed.flags |= ALL_OPTIONS + 1;
+    expect(print_objects(&placed, 0, 0).status == WASMPRINTER_UNKNOWN_OPTION, "guard", "status with an unknown option and a limit");
 }
 
 /* Returns whether a prefix of the indent ends with a whole character. */
@@ -227,6 +261,9 @@ static void check_indent(size_t len, End end) {
     Objects placed = objects(MODULE, sizeof MODULE, INDENT, len, end);
     WasmprinterStatus status = is_whole(len) ? WASMPRINTER_OK : WASMPRINTER_INVALID_INDENT;
     expect(print_objects(&placed, pages.size, MOST_LINES).status == status, "guard", "status with an indent");
+    placed.limit = 0;
+    status = is_whole(len) ? WASMPRINTER_TOO_LONG : WASMPRINTER_INVALID_INDENT;
+    expect(print_objects(&placed, pages.size, MOST_LINES).status == status, "guard", "status with an indent and a limit");
 }
 
 /* Writes the description of a status to every size of buffer. */
@@ -242,6 +279,7 @@ static void check_error_text(WasmprinterStatus status, End end) {
 static void check_end(End end) {
     for (size_t len = 0; len <= sizeof MODULE; len++) {
         check_prefix(len, end);
+        check_limits(len, end);
     }
     for (uint32_t flags = 0; flags <= ALL_OPTIONS; flags++) {
         check_options(flags, end);

@@ -82,15 +82,6 @@ static Outcome print_to_block(const Input *input, uint8_t *out) {
     return outcome;
 }
 
-/* Returns the number of bytes that a buffer has in common with a text. */
-static size_t prefix_of(const uint8_t *out, const char *text) {
-    size_t len = 0;
-    while (text[len] != '\0' && out[len] == (uint8_t)text[len]) {
-        len++;
-    }
-    return len;
-}
-
 /* Checks a print none of whose allocations failed. */
 static void check_printed(const char *title, Outcome outcome, const uint8_t *out, const char *text) {
     expect(outcome.status == WASMPRINTER_OK && outcome.stored.length == strlen(text), title, "outcome");
@@ -101,7 +92,7 @@ static void check_printed(const char *title, Outcome outcome, const uint8_t *out
 static void check_refused(const char *title, Outcome outcome, const uint8_t *out, const char *text, bool is_folded) {
     const Outcome memory = {WASMPRINTER_MEMORY, {0, 0, 0}};
     expect(is_same(outcome, memory), title, "error");
-    expect(is_unchanged(out, is_folded ? prefix_of(out, text) : 0, ROOM), title, "buffer after an error");
+    expect(is_prefix(out, ROOM, is_folded ? ROOM : 0, text, strlen(text)), title, "buffer after an error");
 }
 
 /* Prints with every number of allowed allocations, until none is refused. Each failure must be reported, and every block freed. Returns the
@@ -131,9 +122,9 @@ int main(void) {
     static const char empty[] = "\0asm\1\0\0";
     static const char typed[] = "\0asm\1\0\0\0\1\4\1\x60\0";
     static const char text[] = "(module\n" INDENT "(type (;0;) (func))\n)\n";
-    const Input nothing = {{empty, sizeof empty}, {0, {INDENT, sizeof INDENT - 1}}};
-    const Input flat = {{typed, sizeof typed}, {0, {INDENT, sizeof INDENT - 1}}};
-    const Input folded = {{typed, sizeof typed}, {WASMPRINTER_FOLD, {INDENT, sizeof INDENT - 1}}};
+    const Input nothing = {{empty, sizeof empty}, {0, {INDENT, sizeof INDENT - 1}, 0}};
+    const Input flat = {{typed, sizeof typed}, {0, {INDENT, sizeof INDENT - 1}, 0}};
+    const Input folded = {{typed, sizeof typed}, {WASMPRINTER_FOLD, {INDENT, sizeof INDENT - 1}, 0}};
     unsigned failures = check("a long indent and an empty module", print_to_buffer, &nothing, "(module)\n", 1);
     failures += check("a long indent and a type", print_to_buffer, &flat, text, 2);
     failures += check("the same with lines", print_with_lines, &flat, text, 2);

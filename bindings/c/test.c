@@ -181,13 +181,21 @@ static bool expect_outcome(const Case *test_case, Outcome outcome) {
            expect(outcome.stored.count == typed->stored.count, test_case->title, "count of lines");
 }
 
-/* Prints to a buffer of each size from 0 to one byte more than the text. */
-static void check_text(const Case *test_case) {
+/* Returns the input of a case with another limit. */
+static Input limited(const Case *test_case, size_t limit) {
+    Input input = test_case->input;
+    input.options.limit = limit;
+    return input;
+}
+
+/* Prints with a limit that the text does not exceed, to a buffer of each size from 0 to one byte more than the text. */
+static void check_text(const Case *test_case, size_t limit) {
     static uint8_t out[TEXT_ROOM + 1];
+    const Input input = limited(test_case, limit);
     bool is_right = true;
     for (size_t room = 0; is_right && room <= test_case->text_len + 1; room++) {
         memset(out, GUARD, sizeof out);
-        is_right = expect_outcome(test_case, print_text(&test_case->input, out, room)) &&
+        is_right = expect_outcome(test_case, print_text(&input, out, room)) &&
                    expect(is_over(out, sizeof out, room, test_case->text, test_case->text_len), test_case->title, "text");
     }
 }
@@ -224,22 +232,45 @@ static void check_lines(const Case *test_case) {
     }
 }
 
-/* Prints to memory from `realloc`. */
-static void check_alloc(const Case *test_case) {
+/* Prints with each limit from 1 to two bytes more than the text, and with a table. An error that is found before printing does not depend on
+ * the limit. */
+static void check_limits(const Case *test_case) {
+    static uint8_t out[TEXT_ROOM];
+    WasmprinterLine lines[MOST_LINES];
     const char *title = test_case->title;
+    const size_t length = test_case->text_len;
+    bool is_right = true;
+    for (size_t limit = 1; is_right && limit <= length + 2; limit++) {
+        const Input input = limited(test_case, limit);
+        memset(out, GUARD, sizeof out);
+        Outcome outcome = print_lines(&input, out, sizeof out, lines, MOST_LINES);
+        if (limit < length) {
+            is_right = expect(is_same(outcome, too_long()), title, "outcome of a text that is too long") &&
+                       expect(is_prefix(out, sizeof out, limit, test_case->text, length), title, "prefix of a text that is too long");
+        } else {
+            is_right = expect_outcome(test_case, outcome) && expect_lines(test_case, lines, test_case->outcome.stored.count) &&
+                       expect(is_over(out, sizeof out, sizeof out, test_case->text, length), title, "text with a limit");
+        }
+    }
+}
+
+/* Prints with a limit that the text does not exceed, to memory from `realloc`. */
+static void check_alloc(const Case *test_case, size_t limit) {
+    const char *title = test_case->title;
+    const Input input = limited(test_case, limit);
     size_t length = test_case->outcome.stored.length;
     block.len = GUARD;
-    if (expect_outcome(test_case, print_alloc(&test_case->input, &block)) && expect(block.len == length, title, "length of the block") &&
+    if (expect_outcome(test_case, print_alloc(&input, &block)) && expect(block.len == length, title, "length of the block") &&
         test_case->outcome.status == WASMPRINTER_OK) {
         expect(memcmp(block.ptr, test_case->text, length) == 0 && block.ptr[length] == '\0', title, "text of the block");
     }
 }
 
 /* Prints with flags that have unknown bits. Nothing may be written. */
-static bool check_unknown_options(const Case *test_case, uint32_t flags) {
+static bool check_unknown_options(const Case *test_case, uint32_t flags, size_t limit) {
     uint8_t out[LINE_ROOM];
     WasmprinterLine lines[MOST_LINES];
-    Input input = test_case->input;
+    Input input = limited(test_case, limit);
     input.options.flags = flags;
     memset(out, GUARD, sizeof out);
     memset(lines, GUARD, sizeof lines);
@@ -251,12 +282,13 @@ static bool check_unknown_options(const Case *test_case, uint32_t flags) {
            expect(is_unchanged(lines, 0, sizeof lines), test_case->title, "table after an unknown option");
 }
 
-/* Sets each unknown bit of the flags, with each set of known options, and all bits. */
+/* Sets each unknown bit of the flags, with each set of known options, and all bits, without and with a limit. */
 static void check_unknown_bits(const Case *test_case) {
-    bool is_right = check_unknown_options(test_case, UINT32_MAX);
+    bool is_right = check_unknown_options(test_case, UINT32_MAX, 0);
     for (unsigned bit = FIRST_UNKNOWN_BIT; is_right && bit < BITS; bit++) {
         for (uint32_t known = 0; is_right && known <= ALL_OPTIONS; known++) {
-            is_right = check_unknown_options(test_case, (uint32_t)1 << bit | known);
+            const uint32_t flags = (uint32_t)1 << bit | known;
+            is_right = check_unknown_options(test_case, flags, 0) && check_unknown_options(test_case, flags, 1);
         }
     }
 }
@@ -302,9 +334,12 @@ static void check_error_text(const char *title, WasmprinterStatus status, uint64
 
 /* Prints a case in each way. */
 static void check_printing(const Case *test_case) {
-    check_text(test_case);
+    check_text(test_case, 0);
+    check_text(test_case, test_case->text_len);
     check_lines(test_case);
-    check_alloc(test_case);
+    check_limits(test_case);
+    check_alloc(test_case, 0);
+    check_alloc(test_case, test_case->text_len);
     check_unknown_bits(test_case);
 }
 
@@ -359,7 +394,7 @@ static void check_null(const char *title, size_t len) {
     const WasmprinterBytes no_bytes = {NULL, len};
     const WasmprinterBuffer no_text = {NULL, len};
     const WasmprinterTable no_lines = {NULL, len};
-    const WasmprinterOptions options = {0, {NULL, len}};
+    const WasmprinterOptions options = {0, {NULL, len}, 0};
     WasmprinterResult result = {GUARD, GUARD, GUARD};
     expect(wasmprinter_print(no_bytes, NULL, no_text, NULL) == WASMPRINTER_MALFORMED, title, "status of no bytes");
     expect(wasmprinter_print_lines(no_bytes, &options, no_text, no_lines, NULL) == WASMPRINTER_MALFORMED, title, "status of no bytes");
@@ -396,8 +431,9 @@ static void check_zero_byte(void) {
     add_text(&test_case, text, sizeof text - 1);
     test_case.outcome.stored.length = test_case.text_len;
     test_case.outcome.stored.count = 3;
-    check_text(&test_case);
-    check_alloc(&test_case);
+    check_text(&test_case, 0);
+    check_text(&test_case, test_case.text_len);
+    check_alloc(&test_case, 0);
 }
 
 /* Checks which of two errors is returned, for a pair that no case has. */

@@ -6,7 +6,7 @@
 #include <stdlib.h>
 
 /* The arguments of a call. Their lengths differ from each other. */
-enum { WASM_LEN = 4096, INDENT_LEN = 1024, OUT_LEN = 2048, LINES_LEN = 512 };
+enum { WASM_LEN = 4096, INDENT_LEN = 1024, OUT_LEN = 2048, LINES_LEN = 512, LIMIT = 8192 };
 static const uint32_t FLAGS = 0xfffffff5; /* known and unknown options */
 static uint8_t wasm[WASM_LEN];
 static uint8_t indent[INDENT_LEN];
@@ -35,6 +35,7 @@ static struct {
     unsigned calls;
     Part parts[PARTS];
     uint32_t flags;
+    size_t limit;
     const void *result;
     Part buffers[MOST_CALLS];
 } received;
@@ -51,7 +52,7 @@ static Part part_of(const void *start, size_t len) {
 static void write_text(uint8_t *text, size_t room, size_t length) { memset(text, TEXT, length < room ? length : room); }
 
 WasmprinterStatus wasmprinter_raw_print(const uint8_t *bytes, size_t bytes_len, uint32_t flags, const uint8_t *level, size_t level_len,
-                                        uint8_t *text, size_t text_len, WasmprinterLine *table, size_t table_len,
+                                        size_t limit, uint8_t *text, size_t text_len, WasmprinterLine *table, size_t table_len,
                                         WasmprinterResult *result) {
     const unsigned call = received.calls++ % MOST_CALLS;
     received.parts[WASM] = part_of(bytes, bytes_len);
@@ -59,6 +60,7 @@ WasmprinterStatus wasmprinter_raw_print(const uint8_t *bytes, size_t bytes_len, 
     received.parts[OUT] = received.buffers[call] = part_of(text, text_len);
     received.parts[LINES] = part_of(table, table_len);
     received.flags = flags;
+    received.limit = limit;
     received.result = result;
     write_text(text, text_len, answers[call].stored.length);
     *result = answers[call].stored;
@@ -81,7 +83,7 @@ static void answer(Outcome first, Outcome second) {
 
 /* ---- Null pointers */
 
-/* The parts of a call that are left out, as bits: a pointer is then null. Without lengths, all lengths are 0. */
+/* The parts of a call that are left out, as bits: a pointer is then null. Without lengths, all lengths and the limit are 0. */
 enum { NO_WASM = 1, NO_INDENT = 2, NO_OUT = 4, NO_LINES = 8, NO_OPTIONS = 16, NO_RESULT = 32, NO_LENGTHS = 64, COMBINATIONS = 128 };
 
 /* Checks a part that the last call received. If a null pointer was given, the part is empty, and its pointer is not null. */
@@ -100,6 +102,7 @@ static void expect_options(const WasmprinterOptions *options, const char *functi
         expect(level.len == 2 && memcmp(level.start, "  ", 2) == 0, function, "default indent");
     }
     expect(received.flags == (options != NULL ? options->flags : 0), function, "flags");
+    expect(received.limit == (options != NULL && options->limit != 0 ? options->limit : SIZE_MAX), function, "limit");
 }
 
 /* Checks the result of the last call, and where it was stored. */
@@ -128,7 +131,7 @@ static void expect_arguments(WasmprinterBytes bytes, const WasmprinterOptions *o
 static void check_print(unsigned nulls) {
     const size_t some = nulls & NO_LENGTHS ? 0 : 1;
     const WasmprinterBytes bytes = {nulls & NO_WASM ? NULL : wasm, WASM_LEN * some};
-    const WasmprinterOptions own_options = {FLAGS, {nulls & NO_INDENT ? NULL : indent, INDENT_LEN * some}};
+    const WasmprinterOptions own_options = {FLAGS, {nulls & NO_INDENT ? NULL : indent, INDENT_LEN * some}, LIMIT * some};
     const WasmprinterOptions *options = nulls & NO_OPTIONS ? NULL : &own_options;
     const WasmprinterBuffer text = {nulls & NO_OUT ? NULL : out, OUT_LEN * some};
     const WasmprinterTable table = {nulls & NO_LINES ? NULL : lines, LINES_LEN * some};
@@ -213,6 +216,7 @@ static void *resize(void *context, void *block, size_t len) {
 /* A call of wasmprinter_print_alloc, the outcomes of its prints, and the expected results. Unused lengths are 0. */
 typedef struct Scenario {
     const char *title;
+    size_t limit;     /* the limit of the options, 0 for none */
     Outcome first;    /* the outcome of the first print */
     Outcome second;   /* the outcome of the second print, if there is one */
     unsigned failing; /* the allocations that fail */
@@ -226,24 +230,35 @@ typedef struct Scenario {
 /* The outcomes of prints and of calls. */
 #define PRINTED(length) {WASMPRINTER_OK, {length, COUNT, 0}}
 #define REFUSED {WASMPRINTER_DYLINK_SUBSECTION, {0, 0, DETAIL}}
+#define TOO_LONG {WASMPRINTER_TOO_LONG, {0, 0, 0}}
 #define OUT_OF_MEMORY {WASMPRINTER_MEMORY, {0, 0, 0}}
 #define NOT_PRINTED {GUARD, {GUARD, GUARD, GUARD}}
 
 static const Scenario SCENARIOS[] = {
-    {"short", PRINTED(LENGTH), NOT_PRINTED, NONE, 1, {ROOM + 1, 0}, 1, {ROOM, 0}, PRINTED(LENGTH)},
-    {"as long as expected", PRINTED(ROOM), NOT_PRINTED, NONE, 1, {ROOM + 1, 0}, 1, {ROOM, 0}, PRINTED(ROOM)},
-    {"a byte longer", PRINTED(ROOM + 1), PRINTED(ROOM + 1), NONE, 2, {ROOM + 1, ROOM + 2}, 2, {ROOM, ROOM + 1}, PRINTED(ROOM + 1)},
-    {"much longer", PRINTED(LONG), PRINTED(LONG), NONE, 2, {ROOM + 1, LONG + 1}, 2, {ROOM, LONG}, PRINTED(LONG)},
-    {"measured", PRINTED(LENGTH), PRINTED(LENGTH), FIRST, 2, {ROOM + 1, LENGTH + 1}, 2, {0, LENGTH}, PRINTED(LENGTH)},
-    {"measured, a long one", PRINTED(LONG), PRINTED(LONG), FIRST, 2, {ROOM + 1, LONG + 1}, 2, {0, LONG}, PRINTED(LONG)},
-    {"not reallocated", PRINTED(ROOM + 1), NOT_PRINTED, SECOND, 2, {ROOM + 1, ROOM + 2}, 1, {ROOM, 0}, OUT_OF_MEMORY},
-    {"not allocated", PRINTED(LENGTH), NOT_PRINTED, BOTH, 2, {ROOM + 1, LENGTH + 1}, 1, {0, 0}, OUT_OF_MEMORY},
-    {"too long for memory", PRINTED(SIZE_MAX - 1), NOT_PRINTED, SECOND, 2, {ROOM + 1, SIZE_MAX}, 1, {ROOM, 0}, OUT_OF_MEMORY},
-    {"too long for its zero byte", PRINTED(SIZE_MAX), NOT_PRINTED, NONE, 1, {ROOM + 1, 0}, 1, {ROOM, 0}, OUT_OF_MEMORY},
-    {"the same, measured", PRINTED(SIZE_MAX), NOT_PRINTED, FIRST, 1, {ROOM + 1, 0}, 1, {0, 0}, OUT_OF_MEMORY},
-    {"refused", REFUSED, NOT_PRINTED, NONE, 1, {ROOM + 1, 0}, 1, {ROOM, 0}, REFUSED},
-    {"refused when measured", REFUSED, NOT_PRINTED, FIRST, 1, {ROOM + 1, 0}, 1, {0, 0}, REFUSED},
-    {"refused at last", PRINTED(ROOM + 1), REFUSED, NONE, 2, {ROOM + 1, ROOM + 2}, 2, {ROOM, ROOM + 1}, REFUSED},
+    {"short", 0, PRINTED(LENGTH), NOT_PRINTED, NONE, 1, {ROOM + 1, 0}, 1, {ROOM, 0}, PRINTED(LENGTH)},
+    {"as long as expected", 0, PRINTED(ROOM), NOT_PRINTED, NONE, 1, {ROOM + 1, 0}, 1, {ROOM, 0}, PRINTED(ROOM)},
+    {"a byte longer", 0, PRINTED(ROOM + 1), PRINTED(ROOM + 1), NONE, 2, {ROOM + 1, ROOM + 2}, 2, {ROOM, ROOM + 1}, PRINTED(ROOM + 1)},
+    {"much longer", 0, PRINTED(LONG), PRINTED(LONG), NONE, 2, {ROOM + 1, LONG + 1}, 2, {ROOM, LONG}, PRINTED(LONG)},
+    {"measured", 0, PRINTED(LENGTH), PRINTED(LENGTH), FIRST, 2, {ROOM + 1, LENGTH + 1}, 2, {0, LENGTH}, PRINTED(LENGTH)},
+    {"measured, a long one", 0, PRINTED(LONG), PRINTED(LONG), FIRST, 2, {ROOM + 1, LONG + 1}, 2, {0, LONG}, PRINTED(LONG)},
+    {"not reallocated", 0, PRINTED(ROOM + 1), NOT_PRINTED, SECOND, 2, {ROOM + 1, ROOM + 2}, 1, {ROOM, 0}, OUT_OF_MEMORY},
+    {"not allocated", 0, PRINTED(LENGTH), NOT_PRINTED, BOTH, 2, {ROOM + 1, LENGTH + 1}, 1, {0, 0}, OUT_OF_MEMORY},
+    {"too long for memory", 0, PRINTED(SIZE_MAX - 1), NOT_PRINTED, SECOND, 2, {ROOM + 1, SIZE_MAX}, 1, {ROOM, 0}, OUT_OF_MEMORY},
+    {"too long for its zero byte", 0, PRINTED(SIZE_MAX), NOT_PRINTED, NONE, 1, {ROOM + 1, 0}, 1, {ROOM, 0}, OUT_OF_MEMORY},
+    {"the same, measured", 0, PRINTED(SIZE_MAX), NOT_PRINTED, FIRST, 1, {ROOM + 1, 0}, 1, {0, 0}, OUT_OF_MEMORY},
+    {"refused", 0, REFUSED, NOT_PRINTED, NONE, 1, {ROOM + 1, 0}, 1, {ROOM, 0}, REFUSED},
+    {"refused when measured", 0, REFUSED, NOT_PRINTED, FIRST, 1, {ROOM + 1, 0}, 1, {0, 0}, REFUSED},
+    {"refused at last", 0, PRINTED(ROOM + 1), REFUSED, NONE, 2, {ROOM + 1, ROOM + 2}, 2, {ROOM, ROOM + 1}, REFUSED},
+    {"limited", LENGTH, PRINTED(LENGTH), NOT_PRINTED, NONE, 1, {LENGTH + 1, 0}, 1, {LENGTH, 0}, PRINTED(LENGTH)},
+    {"limited to a byte", 1, TOO_LONG, NOT_PRINTED, NONE, 1, {2, 0}, 1, {1, 0}, TOO_LONG},
+    {"limited, not reallocated", LONG, PRINTED(LONG), NOT_PRINTED, SECOND, 2, {ROOM + 1, LONG + 1}, 1, {ROOM, 0}, OUT_OF_MEMORY},
+    {"limited, measured", LONG, PRINTED(LONG), PRINTED(LONG), FIRST, 2, {ROOM + 1, LONG + 1}, 2, {0, LONG}, PRINTED(LONG)},
+    {"limited to less, measured", ROOM - 1, PRINTED(LENGTH), PRINTED(LENGTH), FIRST, 2, {ROOM, LENGTH + 1}, 2, {0, LENGTH}, PRINTED(LENGTH)},
+    {"too long when measured", ROOM - 1, TOO_LONG, NOT_PRINTED, FIRST, 1, {ROOM, 0}, 1, {0, 0}, TOO_LONG},
+    {"limited to the expected length", ROOM, PRINTED(ROOM), NOT_PRINTED, NONE, 1, {ROOM + 1, 0}, 1, {ROOM, 0}, PRINTED(ROOM)},
+    {"limited to a byte more", ROOM + 1, PRINTED(ROOM + 1), PRINTED(ROOM + 1), NONE, 2, {ROOM + 1, ROOM + 2}, 2, {ROOM, ROOM + 1}, PRINTED(ROOM + 1)},
+    {"too long for a high limit", LONG, TOO_LONG, NOT_PRINTED, NONE, 1, {ROOM + 1, 0}, 1, {ROOM, 0}, TOO_LONG},
+    {"the greatest limit", SIZE_MAX, PRINTED(LENGTH), NOT_PRINTED, NONE, 1, {ROOM + 1, 0}, 1, {ROOM, 0}, PRINTED(LENGTH)},
 };
 
 /* Ways to make the call of a scenario, as bits. */
@@ -278,10 +293,10 @@ static void expect_text(const Scenario *scenario, WasmprinterBuffer text) {
     expect(strlen(text.ptr) == text.len && text.ptr[0] == TEXT && text.ptr[text.len - 1] == TEXT, scenario->title, "bytes of the text");
 }
 
-/* Makes the call of a scenario, and checks it. */
+/* Makes the call of a scenario, and checks it. Options are left out only if there is no limit. */
 static void check_scenario(const Scenario *scenario, unsigned way) {
-    const WasmprinterOptions own_options = {FLAGS, {indent, INDENT_LEN}};
-    const WasmprinterOptions *options = way & WITHOUT_OPTIONS ? NULL : &own_options;
+    const WasmprinterOptions own_options = {FLAGS, {indent, INDENT_LEN}, scenario->limit};
+    const WasmprinterOptions *options = way & WITHOUT_OPTIONS && scenario->limit == 0 ? NULL : &own_options;
     Memory memory = {scenario->failing, 0, {0, 0}, way & WITHOUT_BLOCK ? NULL : malloc(LENGTH)};
     WasmprinterBuffer text = {(char *)memory.block, GUARD};
     Outcome outcome = no_outcome();

@@ -237,9 +237,11 @@ static void expect_lines(const Case &test_case, const Lines &lines) {
     expect(index == lines.size() && std::next(lines.begin(), lines.size()) == lines.end(), test_case.title, "end of the lines");
 }
 
-static void check(const Case &test_case) {
+// Prints a case with options that have its indent and this limit.
+static void check_with(const Case &test_case, std::size_t limit) {
     Options options = test_case.options;
     options.indent = test_case.indent;
+    options.limit = limit;
     if (test_case.status != WASMPRINTER_OK) {
         expect_error(test_case, [&] { return wasmprinter::print(test_case.wasm, options); });
         expect_error(test_case, [&] { return wasmprinter::print_lines(test_case.wasm, options); });
@@ -247,6 +249,28 @@ static void check(const Case &test_case) {
     }
     expect(wasmprinter::print(test_case.wasm, options) == test_case.text, test_case.title, "text");
     expect_lines(test_case, wasmprinter::print_lines(test_case.wasm, options));
+}
+
+// Prints the module of a case with a limit that is less than the length of its text.
+static void check_too_long(Case test_case, std::size_t limit) {
+    test_case.status = WASMPRINTER_TOO_LONG;
+    test_case.error = "the text is too long";
+    check_with(test_case, limit);
+}
+
+// Prints a case without a limit, and with limits that its text does not exceed, and that it exceeds. An error of a case does not depend on the
+// limit if it is found before printing.
+static void check(const Case &test_case) {
+    check_with(test_case, 0);
+    check_with(test_case, SIZE_MAX);
+    if (test_case.status == WASMPRINTER_OK) {
+        check_with(test_case, test_case.text.size());
+        check_with(test_case, test_case.text.size() + 1);
+        check_too_long(test_case, test_case.text.size() - 1);
+        check_too_long(test_case, 1);
+    } else if (test_case.status != WASMPRINTER_DYLINK_SUBSECTION) {
+        check_with(test_case, 1);
+    }
 }
 
 // A module with a type, and its text.
@@ -324,6 +348,24 @@ static void check_many_lines() {
     check(printed("many lines", wasm, lines));
 }
 
+// Prints a module with each limit to a buffer that is longer than its text. After the text, or a prefix of it, the buffer is unchanged.
+static void check_limits() {
+    const std::string filler(ONE_TYPE_TEXT.size() + 2, '#');
+    Options options;
+    for (options.limit = 1; options.limit <= filler.size(); options.limit++) {
+        std::string out = filler;
+        WasmprinterResult result = {1, 1, 1};
+        const WasmprinterOptions chosen = wasmprinter::detail::options_of(options);
+        const auto status = wasmprinter_print(wasmprinter_bytes(ONE_TYPE.data(), ONE_TYPE.size()), &chosen, {out.data(), out.size()}, &result);
+        const bool fits = ONE_TYPE_TEXT.size() <= options.limit;
+        const std::size_t held = out.find('#');
+        expect(status == (fits ? WASMPRINTER_OK : WASMPRINTER_TOO_LONG), "limits", "status");
+        expect(result.length == (fits ? ONE_TYPE_TEXT.size() : 0) && result.detail == 0, "limits", "result");
+        expect(fits ? held == ONE_TYPE_TEXT.size() : held <= options.limit, "limits", "length in the buffer");
+        expect(out == std::string(ONE_TYPE_TEXT.substr(0, held)) + filler.substr(held), "limits", "buffer");
+    }
+}
+
 // Copies and moves lines.
 static void check_copies() {
     Lines lines = wasmprinter::print_lines(ONE_TYPE);
@@ -372,6 +414,8 @@ static void check_failing_allocations() {
     options.indent = indent;
     check_memory("failing allocations", [&] { return wasmprinter::print(ONE_TYPE, options) == text; });
     check_memory("failing allocations of lines", [&] { return wasmprinter::print_lines(ONE_TYPE, options).text() == text; });
+    options.limit = text.size();
+    check_memory("failing allocations with a limit", [&] { return wasmprinter::print(ONE_TYPE, options) == text; });
     options.fold = true;
     check_memory("failing allocations, folded", [&] { return wasmprinter::print(ONE_TYPE, options) == text; });
 }
@@ -387,6 +431,7 @@ int main(int argc, char **argv) {
     check_indents();
     check_long_text();
     check_many_lines();
+    check_limits();
     check_copies();
     check_failing_allocations();
     expect(wasmprinter::version() == "0.263.0-r1", "the library", "version");

@@ -37,6 +37,7 @@ struct Options {
     bool name_unnamed = false;      // synthesize identifiers for items without a name
     bool fold = false;              // put each operator in parentheses with its operands
     std::string_view indent = "  "; // the text of one level of nesting, in UTF-8
+    std::size_t limit = 0;          // the greatest length of the text in bytes; 0: no limit
 };
 
 // The reason why a module was not printed. what() describes it: `malformed module at byte 0x1f`.
@@ -45,7 +46,8 @@ class Error : public std::runtime_error {
     Error(WasmprinterStatus status, std::uint64_t detail)
         : std::runtime_error(describe(status, detail)), status_(status), detail_(detail) {}
 
-    // Returns the number of the error, such as WASMPRINTER_MALFORMED. It is never WASMPRINTER_MEMORY: then std::bad_alloc is thrown.
+    // Returns the number of the error, such as WASMPRINTER_MALFORMED. It is WASMPRINTER_TOO_LONG if the text is longer than the limit. It is
+    // never WASMPRINTER_MEMORY: then std::bad_alloc is thrown.
     WasmprinterStatus status() const noexcept { return status_; }
 
     // Returns the place, the count or the id of the error, as wasmprinter.h describes it, or 0 if it has none.
@@ -86,7 +88,7 @@ inline WasmprinterBytes bytes_of(std::string_view bytes) noexcept { return wasmp
 
 // Returns the options for C. An empty indent stays empty, even if its pointer is null.
 inline WasmprinterOptions options_of(const Options &options) noexcept {
-    WasmprinterOptions chosen = {0, bytes_of(options.indent.empty() ? "" : options.indent)};
+    WasmprinterOptions chosen = {0, bytes_of(options.indent.empty() ? "" : options.indent), options.limit};
     chosen.flags |= options.offsets ? WASMPRINTER_OFFSETS : 0;
     chosen.flags |= options.skeleton ? WASMPRINTER_SKELETON : 0;
     chosen.flags |= options.name_unnamed ? WASMPRINTER_NAME_UNNAMED : 0;
@@ -186,6 +188,9 @@ class Lines {
     // Most texts have less than 12 bytes for each byte of the module, and a line for every two. A longer text is printed again. Pages of an
     // array that are not written to take no memory.
     std::size_t length = wasm.size() * 12 + 4096, count = wasm.size() / 2 + 64;
+    if (options.limit != 0 && options.limit < length) {
+        length = options.limit;
+    }
     for (;;) {
         detail::Array<char> text(length);
         detail::Array<WasmprinterLine> table(count);

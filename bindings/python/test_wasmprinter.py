@@ -1,5 +1,6 @@
 """Checks every case of bindings/cases.txt, and the package itself."""
 
+import ctypes
 import doctest
 import os
 import pathlib
@@ -101,6 +102,7 @@ class Cases(unittest.TestCase):
                 wasmprinter.print_bytes(case.wasm, **case.options)
         elif case.error is None:
             self.assertEqual(wasmprinter.print_bytes(case.wasm, **case.options), "".join(text for _, text in case.lines))
+            self.check_limits(case)
             lines = list(wasmprinter.print_lines(case.wasm, **case.options))
             self.assertEqual([line.text for line in lines], [text for _, text in case.lines])
             if case.has_places:
@@ -113,6 +115,21 @@ class Cases(unittest.TestCase):
                 self.assertIs(type(raised.exception), getattr(wasmprinter, name))
                 check_error(self, raised.exception, name, detail)
                 self.assertEqual(str(raised.exception), text)
+                if name != "DylinkSubsection":
+                    # the error is found before printing
+                    with self.assertRaises(getattr(wasmprinter, name)):
+                        function(case.wasm, limit=1, **case.options)
+
+    def check_limits(self, case):
+        """Prints with each limit from 1 to two bytes more than the text."""
+        text = "".join(text for _, text in case.lines)
+        length = len(text.encode("utf-8"))
+        for limit in range(1, length):
+            with self.assertRaises(wasmprinter.TooLong) as raised:
+                wasmprinter.print_bytes(case.wasm, limit=limit, **case.options)
+        check_error(self, raised.exception, "TooLong", 0)
+        for limit in range(length, length + 3):
+            self.assertEqual(wasmprinter.print_bytes(case.wasm, limit=limit, **case.options), text)
 
 
 def check_error(test, error, name, detail):
@@ -142,7 +159,7 @@ class Errors(unittest.TestCase):
 
     def test_unknown_option(self):
         with self.assertRaises(wasmprinter.UnknownOption) as raised:
-            wasmprinter._print_whole(EMPTY, 0x38, b"  ", with_lines=False)
+            wasmprinter._print_whole(EMPTY, 0x38, b"  ", 1, with_lines=False)
         check_error(self, raised.exception, "UnknownOption", 0x30)
         self.assertEqual(str(raised.exception), "unknown options 0x30")
 
@@ -181,6 +198,65 @@ class Options(unittest.TestCase):
 
     def test_indent_with_a_zero_byte(self):
         self.assertEqual(wasmprinter.print_bytes(ONE_TYPE, indent="\0é"), "(module\n\0é(type (;0;) (func))\n)\n")
+
+
+class Limits(unittest.TestCase):
+    FUNCTIONS = wasmprinter.print_bytes, wasmprinter.print_lines
+
+    def test_no_limit(self):
+        for function in self.FUNCTIONS:
+            for limit in (True, False, 9.0, "9", []):
+                with self.subTest(limit), self.assertRaisesRegex(TypeError, "limit must be an int or None, not"):
+                    function(EMPTY, limit=limit)
+            for limit in (0, -1, -(2**64)):
+                with self.subTest(limit), self.assertRaisesRegex(ValueError, "limit must be at least 1"):
+                    function(EMPTY, limit=limit)
+
+    def test_great_limits(self):
+        """A limit that the library can't count is no limit."""
+        for limit in (None, 2**63, 2**64 - 1, 2**64, 2**64 + 1, 10**30):
+            self.assertEqual(wasmprinter.print_bytes(EMPTY, limit=limit), "(module)\n")
+
+    def test_long_text(self):
+        text = "".join(text for _, text in LINES_WITH_NOPS)
+        for limit in (len(text), len(text) + 1, 10 * len(text)):
+            self.assertEqual(wasmprinter.print_bytes(WITH_NOPS, limit=limit), text)
+            self.assertEqual(list(wasmprinter.print_lines(WITH_NOPS, limit=limit)), LINES_WITH_NOPS)
+        for limit in (1, 4096, len(text) - 1):
+            for function in self.FUNCTIONS:
+                with self.assertRaises(wasmprinter.TooLong):
+                    function(WITH_NOPS, limit=limit)
+
+    def test_length_in_bytes(self):
+        """The text has 31 characters and 33 bytes."""
+        text = "(module\n\u20ac(type (;0;) (func))\n)\n"
+        self.assertEqual(wasmprinter.print_bytes(ONE_TYPE, indent="\u20ac", limit=len(text) + 2), text)
+        with self.assertRaises(wasmprinter.TooLong):
+            wasmprinter.print_bytes(ONE_TYPE, indent="\u20ac", limit=len(text) + 1)
+
+    def test_buffer(self):
+        """Each buffer is unchanged after the text, or after a prefix of it."""
+        text = b"(module\n  (type (;0;) (func))\n)\n"
+        room = len(text) + 2
+        for limit in range(room + 1):
+            out, table, result = (ctypes.c_uint8 * room)(*b"#" * room), ctypes.c_uint8(), wasmprinter._Result()
+            status = wasmprinter._print(ONE_TYPE, len(ONE_TYPE), 0, b"  ", 2, limit, out, room, table, 0, result)
+            held = bytes(out).index(b"#")
+            if limit < len(text):
+                self.assertEqual((status, result.length, result.count, result.detail), (10, 0, 0, 0))
+                self.assertLessEqual(held, limit)
+            else:
+                self.assertEqual((status, result.length, result.count, result.detail), (0, len(text), 3, 0))
+                self.assertEqual(held, len(text))
+            self.assertEqual(bytes(out), text[:held] + b"#" * (room - held))
+
+    def test_capacities(self):
+        """The first buffer is not longer than the limit."""
+        for limit, room in ((33, 33), (4263, 4263), (4265, 4264), (None, 4264)):
+            with unittest.mock.patch.object(wasmprinter, "_print", wraps=wasmprinter._print) as function:
+                wasmprinter.print_bytes(ONE_TYPE, limit=limit)
+            self.assertEqual(function.call_count, 1)
+            self.assertEqual(function.call_args[0][7], room)
 
 
 class Lines(unittest.TestCase):
@@ -233,7 +309,7 @@ class Memory(unittest.TestCase):
         for print_module, lines in ((wasmprinter.print_bytes, 0), (wasmprinter.print_lines, 330)):
             with unittest.mock.patch.object(wasmprinter, "_print", wraps=wasmprinter._print) as function:
                 print_module(ONE_TYPE)
-            out_len, lines_len = function.call_args[0][6], function.call_args[0][8]
+            out_len, lines_len = function.call_args[0][7], function.call_args[0][9]
             self.assertEqual((out_len, lines_len), (4264, lines))
 
     def failing(self, longest):
@@ -267,6 +343,8 @@ class Files(unittest.TestCase):
             for name in (path, str(path), os.fsencode(path)):
                 self.assertEqual(wasmprinter.print_file(name), "(module\n  (type (;0;) (func))\n)\n")
             self.assertEqual(wasmprinter.print_file(path, indent=0), "(module\n(type (;0;) (func))\n)\n")
+            with self.assertRaises(wasmprinter.TooLong):
+                wasmprinter.print_file(path, limit=1)
             path.write_bytes(b"(module)")
             with self.assertRaises(wasmprinter.Malformed):
                 wasmprinter.print_file(path)

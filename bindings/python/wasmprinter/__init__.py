@@ -13,6 +13,7 @@ Options of the functions that print:
 - name_unnamed synthesizes identifiers for items without a name.
 - fold puts each operator in parentheses with its operands.
 - indent is the text of one level of nesting, or a number of spaces.
+- limit is the greatest length of the text in bytes, or None. TooLong is raised for a longer text.
 """
 
 from __future__ import annotations
@@ -37,6 +38,9 @@ BytesLike = Union[bytes, bytearray, memoryview]
 # WASMPRINTER_OK and WASMPRINTER_ERROR_TEXT_LEN in wasmprinter.h
 _SUCCESS = 0
 _ERROR_TEXT_LEN = 200
+
+# the greatest length, which means no limit
+_SIZE_MAX = ctypes.c_size_t(-1).value
 
 # the bits of the options
 _FLAGS = {"offsets": 1, "skeleton": 2, "name_unnamed": 4, "fold": 8}
@@ -134,7 +138,7 @@ class DylinkSubsection(Error, status=8):
 
 
 class TooLong(Error, status=10):
-    """The text has more bytes than an address can count."""
+    """The text has more bytes than the limit or, without a limit, than an address can count."""
 
 
 class OutOfMemory(Error, MemoryError, status=11):
@@ -198,6 +202,7 @@ _print = _function(
     ctypes.c_char_p, ctypes.c_size_t,
     ctypes.c_uint32,
     ctypes.c_char_p, ctypes.c_size_t,
+    ctypes.c_size_t,
     ctypes.POINTER(ctypes.c_uint8), ctypes.c_size_t,
     ctypes.POINTER(ctypes.c_uint8), ctypes.c_size_t,
     ctypes.POINTER(_Result),
@@ -235,6 +240,17 @@ def _indent_of(indent: Union[str, int]) -> bytes:
     return b" " * indent
 
 
+def _limit_of(limit: Optional[int]) -> int:
+    """Returns the greatest length of the text. Raises TypeError if the limit is neither an int nor None, and ValueError if it is less than 1."""
+    if limit is None:
+        return _SIZE_MAX
+    if not isinstance(limit, int) or isinstance(limit, bool):
+        raise TypeError(f"limit must be an int or None, not {type(limit).__name__}")
+    if limit < 1:
+        raise ValueError("limit must be at least 1")
+    return min(limit, _SIZE_MAX)
+
+
 def _allocate(size: int) -> Union[mmap.mmap, bytes]:
     """Returns memory of this size, or empty bytes if that fails. Pages that are not written to take no memory."""
     try:
@@ -248,19 +264,20 @@ def _first(memory: Union[mmap.mmap, bytes]) -> ctypes.c_uint8:
     return ctypes.c_uint8() if isinstance(memory, bytes) else ctypes.c_uint8.from_buffer(memory)
 
 
-def _print_whole(data: BytesLike, flags: int, indent: bytes, with_lines: bool) -> Tuple[memoryview, memoryview]:
+def _print_whole(data: BytesLike, flags: int, indent: bytes, limit: int, with_lines: bool) -> Tuple[memoryview, memoryview]:
     """Returns the text in UTF-8, and the table of its lines, which is empty if it is not needed. Raises a subclass of Error.
 
     Nearly every module is printed once. It is printed again if its text or its table is longer than expected, or if there is not enough memory
     for the expected lengths.
     """
     wasm = data if isinstance(data, bytes) else memoryview(data).tobytes()
-    expected = len(wasm) * _TEXT_PER_BYTE + _LEAST_TEXT
+    expected = min(len(wasm) * _TEXT_PER_BYTE + _LEAST_TEXT, limit)
     text, table = _allocate(expected), _allocate((expected // _TEXT_PER_LINE + _LEAST_LINES) * _LINE.size if with_lines else 0)
     result = _Result()
     while True:
         status = _print(
-            wasm, len(wasm), flags, indent, len(indent), _first(text), len(text), _first(table), len(table) // _LINE.size, result,
+            wasm, len(wasm), flags, indent, len(indent), limit,
+            _first(text), len(text), _first(table), len(table) // _LINE.size, result,
         )
         if status != _SUCCESS:
             raise _error_of(status, result.detail)
@@ -275,33 +292,36 @@ def _print_whole(data: BytesLike, flags: int, indent: bytes, with_lines: bool) -
 def print_bytes(
     data: BytesLike, *,
     offsets: bool = False, skeleton: bool = False, name_unnamed: bool = False, fold: bool = False, indent: Union[str, int] = "  ",
+    limit: Optional[int] = None,
 ) -> str:
     """Returns the text of a module. Raises a subclass of Error if it can't be printed."""
     flags = _flags_of(offsets=offsets, skeleton=skeleton, name_unnamed=name_unnamed, fold=fold)
-    text, _ = _print_whole(data, flags, _indent_of(indent), with_lines=False)
+    text, _ = _print_whole(data, flags, _indent_of(indent), _limit_of(limit), with_lines=False)
     return str(text, "utf-8")
 
 
 def print_file(
     path: Union[str, os.PathLike[str]], *,
     offsets: bool = False, skeleton: bool = False, name_unnamed: bool = False, fold: bool = False, indent: Union[str, int] = "  ",
+    limit: Optional[int] = None,
 ) -> str:
     """Returns the text of the module in a file. Raises OSError if the file can't be read, or a subclass of Error."""
     with open(os.fspath(path), "rb") as file:
         data = file.read()
-    return print_bytes(data, offsets=offsets, skeleton=skeleton, name_unnamed=name_unnamed, fold=fold, indent=indent)
+    return print_bytes(data, offsets=offsets, skeleton=skeleton, name_unnamed=name_unnamed, fold=fold, indent=indent, limit=limit)
 
 
 def print_lines(
     data: BytesLike, *,
     offsets: bool = False, skeleton: bool = False, name_unnamed: bool = False, fold: bool = False, indent: Union[str, int] = "  ",
+    limit: Optional[int] = None,
 ) -> Iterator[Line]:
     """Prints a module, and returns an iterator over the lines of its text. Raises a subclass of Error if the module can't be printed.
 
     The iterator keeps the text and a table of 24 bytes for each line. It makes each Line when it returns it.
     """
     flags = _flags_of(offsets=offsets, skeleton=skeleton, name_unnamed=name_unnamed, fold=fold)
-    return _lines(*_print_whole(data, flags, _indent_of(indent), with_lines=True))
+    return _lines(*_print_whole(data, flags, _indent_of(indent), _limit_of(limit), with_lines=True))
 
 
 def _lines(text: memoryview, table: memoryview) -> Iterator[Line]:

@@ -46,7 +46,7 @@ pub enum Error {
     },
     /// The file can't be read.
     Unreadable,
-    /// The text has more than `usize::MAX` bytes.
+    /// The text is longer than the limit or, without a limit, than `usize::MAX`.
     TooLong,
     /// An allocation failed.
     Memory,

@@ -54,6 +54,7 @@ pub fn print_file(path: impl AsRef<Path>) -> Result<String> {
 pub struct Config {
     flags: u32,
     indent: String,
+    limit: usize,
 }
 
 impl Default for Config {
@@ -63,11 +64,12 @@ impl Default for Config {
 }
 
 impl Config {
-    /// Returns the defaults: every option is off, and the indent is two spaces.
+    /// Returns the defaults: every option is off, the indent is two spaces, and the text has no limit.
     pub fn new() -> Config {
         Config {
             flags: 0,
             indent: "  ".to_owned(),
+            limit: usize::MAX,
         }
     }
 
@@ -94,6 +96,19 @@ impl Config {
     /// Sets the text of one level of nesting.
     pub fn indent_text(&mut self, text: impl Into<String>) -> &mut Self {
         self.indent = text.into();
+        self
+    }
+
+    /// Sets the greatest length of the text in bytes, or no limit. Printing stops with [`Error::TooLong`] before the text gets longer. The
+    /// whole module is decoded with any limit.
+    ///
+    /// ```
+    /// let mut config = wasmprinter::Config::new();
+    /// let text = config.limit(Some(8)).print_to_string(b"\0asm\x01\0\0\0");
+    /// assert_eq!(text, Err(wasmprinter::Error::TooLong));
+    /// ```
+    pub fn limit(&mut self, bytes: Option<usize>) -> &mut Self {
+        self.limit = bytes.unwrap_or(usize::MAX);
         self
     }
 
@@ -195,6 +210,7 @@ impl Config {
         // Most texts have less than 12 bytes for each byte of the module, and more than 16 bytes in a line. Pages of an allocation that are
         // not written to take no memory.
         let expected = wasm.len().saturating_mul(12).saturating_add(4096);
+        let expected = expected.min(self.limit);
         let expected_lines = if with_lines { expected / 16 + 64 } else { 0 };
         let (mut text, mut lines) = (Vec::new(), Vec::new());
         // If one of these allocations fails, the first round only measures.
@@ -236,6 +252,7 @@ impl Config {
                 self.flags,
                 self.indent.as_ptr(),
                 self.indent.len(),
+                self.limit,
                 out.as_mut_ptr().cast(),
                 out.len(),
                 lines.as_mut_ptr().cast(),

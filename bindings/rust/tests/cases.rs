@@ -1,6 +1,6 @@
 //! Checks every case of `bindings/cases.txt`. The package leaves this file out, and `printing.rs` has tests that need no file.
 
-use wasmprinter::Config;
+use wasmprinter::{Config, Error};
 
 const CASES: &str = include_str!("../../cases.txt");
 
@@ -92,16 +92,55 @@ impl Case {
         let typed: String = self.lines.iter().map(|line| line.1.as_str()).collect();
         let printed = self.config.print_to_string(&self.wasm);
         assert_eq!(printed.as_deref(), Ok(typed.as_str()), "{}", self.title);
+        let limited = self.limited(typed.len());
         for room in 0..typed.len() + 2 {
-            let printed = self.check_over(room, &typed);
-            assert_eq!(printed, Ok(typed.len()), "{}", self.title);
+            for config in [&self.config, &limited] {
+                let printed = self.check_over(config, room, &typed);
+                assert_eq!(printed, Ok(typed.len()), "{}", self.title);
+            }
+        }
+        for limit in 0..typed.len() + 3 {
+            self.check_limit(limit, &typed);
         }
     }
 
+    /// Returns the options of the case with a limit.
+    fn limited(&self, limit: usize) -> Config {
+        let mut config = self.config.clone();
+        config.limit(Some(limit));
+        config
+    }
+
+    /// Prints with a limit.
+    fn check_limit(&self, limit: usize, typed: &str) {
+        let config = self.limited(limit);
+        let printed = config.print_to_string(&self.wasm);
+        let mut storage = String::new();
+        let lines = config
+            .offsets_and_lines(&self.wasm, &mut storage)
+            .map(Iterator::count);
+        if limit >= typed.len() {
+            assert_eq!(printed.as_deref(), Ok(typed), "{}", self.title);
+            assert_eq!(lines, Ok(self.lines.len()), "{}", self.title);
+            assert_eq!(storage, typed, "{}", self.title);
+            return;
+        }
+        assert_eq!(printed, Err(Error::TooLong), "{}", self.title);
+        assert_eq!(lines, Err(Error::TooLong), "{}", self.title);
+        assert_eq!(storage, "", "{}", self.title);
+        let mut out = vec![GUARD; typed.len()];
+        let over = config.print_over(&self.wasm, &mut out);
+        assert_eq!(over, Err(Error::TooLong), "{}", self.title);
+        let held = out.iter().take_while(|byte| **byte != GUARD).count();
+        assert!(held <= limit, "{}", self.title);
+        assert_eq!(out[..held], typed.as_bytes()[..held], "{}", self.title);
+        assert_eq!(out[held..], vec![GUARD; typed.len() - held]);
+    }
+
     /// Prints to a buffer of `room` bytes. Checks that it holds as much of the text as fits, and that its other bytes are unchanged.
-    fn check_over(&self, room: usize, typed: &str) -> wasmprinter::Result<usize> {
+    fn check_over(&self, config: &Config, room: usize, typed: &str) -> wasmprinter::Result<usize> {
         let mut out = vec![GUARD; room];
-        let printed = self.config.print_over(&self.wasm, &mut out);
+        let printed = config.print_over(&self.wasm, &mut out);
         let fits = room.min(typed.len());
         assert_eq!(&out[..fits], &typed.as_bytes()[..fits], "{}", self.title);
         assert_eq!(out[fits..], vec![GUARD; room - fits], "{}", self.title);
@@ -122,6 +161,10 @@ impl Case {
 
     fn check_refusal(&self, refusal: &Refusal) {
         let error = self.config.print_to_string(&self.wasm).unwrap_err();
+        // An error that is found before printing does not depend on the limit.
+        let limited = self.limited(refusal.left.len());
+        let printed = limited.print_to_string(&self.wasm);
+        assert_eq!(printed, Err(error), "{}", self.title);
         let debug = format!("{error:?}");
         assert_eq!(debug.split(' ').next(), Some(refusal.name.as_str()));
         assert_eq!(error.to_string(), refusal.text);
@@ -130,7 +173,7 @@ impl Case {
         assert_eq!(lines.err(), Some(error), "{}", self.title);
         assert_eq!(storage, "before\n", "{}", self.title);
         for room in 0..refusal.left.len() + 2 {
-            let printed = self.check_over(room, &refusal.left);
+            let printed = self.check_over(&self.config, room, &refusal.left);
             assert_eq!(printed, Err(error), "{}", self.title);
         }
     }

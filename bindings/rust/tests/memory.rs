@@ -1,4 +1,4 @@
-//! Lets large allocations of this crate fail.
+//! Lets large allocations of this crate fail, and measures its largest allocation.
 
 use std::alloc::{GlobalAlloc, Layout, System};
 use std::cell::Cell;
@@ -13,6 +13,9 @@ const ONE_TYPE: &[u8] = b"\0asm\x01\0\0\0\x01\x04\x01\x60\0\0";
 thread_local! {
     /// Allocations of this thread that are longer than this number of bytes fail.
     static MOST: Cell<usize> = const { Cell::new(usize::MAX) };
+
+    /// The length of the largest allocation of this thread.
+    static LARGEST: Cell<usize> = const { Cell::new(0) };
 }
 
 /// The system's allocator, except that it refuses long allocations. A panic may allocate.
@@ -24,6 +27,7 @@ unsafe impl GlobalAlloc for Limited {
         if layout.size() > MOST.with(Cell::get) && !std::thread::panicking() {
             return std::ptr::null_mut();
         }
+        LARGEST.with(|cell| cell.set(cell.get().max(layout.size())));
         // SAFETY: the requirements are the same.
         unsafe { System.alloc(layout) }
     }
@@ -62,6 +66,23 @@ fn prints_with_little_memory() {
     let mut storage = String::new();
     let lines = with_most(64, || config.offsets_and_lines(EMPTY, &mut storage));
     assert!(lines.expect("lines").eq([(Some(0), "(module)\n")]));
+}
+
+/// No allocation for the text is longer than the limit.
+#[test]
+fn allocates_no_more_than_the_limit() {
+    let mut config = Config::new();
+    for (limit, text) in [
+        (8, Err(Error::TooLong)),
+        (9, Ok("(module)\n")),
+        (100, Ok("(module)\n")),
+    ] {
+        config.limit(Some(limit));
+        LARGEST.with(|cell| cell.set(0));
+        let printed = config.print_to_string(EMPTY);
+        assert_eq!(LARGEST.with(Cell::get), limit);
+        assert_eq!(printed.as_deref().map_err(|error| *error), text);
+    }
 }
 
 #[test]

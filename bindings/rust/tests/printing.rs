@@ -188,6 +188,52 @@ fn prints_over_a_buffer() {
 }
 
 #[test]
+fn prints_with_a_limit_and_without() {
+    let mut config = Config::new();
+    assert_eq!(
+        config.limit(Some(9)).print_to_string(EMPTY),
+        print_bytes(EMPTY)
+    );
+    let printed = config.limit(Some(8)).print_to_string(EMPTY);
+    assert_eq!(printed, Err(Error::TooLong));
+    let printed = config.limit(Some(0)).print_to_string(EMPTY);
+    assert_eq!(printed, Err(Error::TooLong));
+    let printed = config.limit(None).print_to_string(EMPTY);
+    assert_eq!(printed.as_deref(), Ok("(module)\n"));
+}
+
+/// The limit is less than the length of the first buffer, greater than it, or much greater.
+#[test]
+fn stops_before_a_long_text() {
+    let (wasm, typed) = (with_nops(), lines_with_nops());
+    let text: String = typed.iter().map(|line| line.1).collect();
+    let mut config = Config::new();
+    for limit in [0, 1, 4096, text.len() - 1] {
+        config.limit(Some(limit));
+        assert_eq!(config.print_to_string(&wasm), Err(Error::TooLong));
+        let mut storage = "before\n".to_owned();
+        let lines = config.offsets_and_lines(&wasm, &mut storage);
+        assert_eq!(lines.err(), Some(Error::TooLong));
+        assert_eq!(storage, "before\n");
+    }
+    for limit in [text.len(), text.len() + 1, 100 * text.len()] {
+        config.limit(Some(limit));
+        assert_eq!(config.print_to_string(&wasm), Ok(text.clone()));
+    }
+}
+
+/// A malformed module and a component have their own errors with any limit.
+#[test]
+fn reports_other_errors_with_a_limit() {
+    let mut config = Config::new();
+    config.limit(Some(0));
+    let malformed = config.print_to_string(b"\0asm\x01\0\0\0\x63\0");
+    assert_eq!(malformed, Err(Error::Malformed { place: 8 }));
+    let component = config.print_to_string(b"\0asm\x0d\0\x01\0");
+    assert_eq!(component, Err(Error::Component));
+}
+
+#[test]
 fn prints_files() {
     let file = File::new("one-type", ONE_TYPE);
     let text = print_file(&file.0);
@@ -207,6 +253,13 @@ fn prints_to_a_writer() {
     let error = Config::new().print_to(b"", &mut out).unwrap_err();
     assert_eq!(error.kind(), io::ErrorKind::InvalidData);
     assert_eq!(error.to_string(), "malformed module at byte 0x0");
+    assert_eq!(out, b"before\n(module)\n");
+    let error = Config::new()
+        .limit(Some(8))
+        .print_to(EMPTY, &mut out)
+        .unwrap_err();
+    assert_eq!(error.kind(), io::ErrorKind::Other);
+    assert_eq!(error.to_string(), "the text is too long");
     assert_eq!(out, b"before\n(module)\n");
     let error = Config::new().print_to(EMPTY, &mut Full).unwrap_err();
     assert_eq!(error.kind(), io::ErrorKind::WriteZero);

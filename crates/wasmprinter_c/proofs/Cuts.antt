@@ -1,20 +1,20 @@
--- A text that is cut at the starts of its entries has the lines of its calls.
+-- A text that is cut at the starts of its lines has the lines of its calls.
 use Rattle.std.proofs.Common.{◌≡◌, ℕ, ◌+◌, ◌-◌, List, [], ◌∷◌, ◌++◌, length, take, drop, refl, sym, ap, ap₂, ◌∙◌, append_assoc, length-append, arith}
-use Rattle.std.specs.Prelude.{Option, Some, None, map}
+use Rattle.std.specs.Prelude.{false, Option, Some, None, map}
 use Rattle.wasmprinter_spec.specs.Call.{Call, Text, Newline, Line, Start, Claim, text_of}
 use Rattle.wasmprinter_spec.specs.Lines.{TextLine, lines_of, text_before_line, joined_lines}
 use Rattle.wasmprinter_writers.specs.Cuts.{lines_at_starts, first_at}
 use Rattle.wasmprinter_writers.specs.declared.line_iterator.LineStart.{LineStart}
 use Rattle.wasmprinter_writers.proofs.LineLaws.{joined-lines_of}
-use Rattle.wasmprinter_c.specs.Lines.{entry, entries, line_start}
+use Rattle.wasmprinter_c.specs.Events.{events, line_event, line_start}
 
 -- The starts of the lines of these calls, whose text starts at this byte.
 abbrev starts_at : ℕ → List Call → List LineStart
-starts_at n cs = map line_start (entries n cs)
+starts_at n cs = map line_start (events false n cs)
 
-line_start-entry : (place : Option ℕ) (n : ℕ) → line_start (entry place n) ≡ record { place = place; at = n }
-line_start-entry (Some p) n = refl
-line_start-entry None n = refl
+line_start-event : (place : Option ℕ) (n : ℕ) → line_start (line_event place n) ≡ record { place = place; at = n }
+line_start-event (Some p) n = refl
+line_start-event None n = refl
 
 drop_front : (x y : List ℕ) → drop (length x) (x ++ y) ≡ y
 drop_front [] y = refl
@@ -39,7 +39,7 @@ first-before : (x : List ℕ) (cs : List Call) → first_at (starts_at (length x
 first-before x [] = length-append x []
 first-before x (Text s ∷ cs) = first-text x s cs (first-before (x ++ s) cs)
 first-before x (Newline ∷ cs) = first-text x (10 ∷ []) cs (first-before (x ++ 10 ∷ []) cs)
-first-before x (Line place ∷ cs) = ap (λ (s : LineStart). s.at) (line_start-entry place (length x)) ∙ omega arith
+first-before x (Line place ∷ cs) = ap (λ (s : LineStart). s.at) (line_start-event place (length x)) ∙ omega arith
 first-before x (Start style ∷ cs) = first-before x cs
 first-before x (Claim name place bytes answer ∷ cs) = first-before x cs
 
@@ -65,7 +65,7 @@ lines-cut x [] = refl
 lines-cut x (Text s ∷ cs) = cut-text x s cs (lines-cut (x ++ s) cs)
 lines-cut x (Newline ∷ cs) = cut-text x (10 ∷ []) cs (lines-cut (x ++ 10 ∷ []) cs)
 lines-cut x (Line place ∷ cs) =
-    ap (λ (s : LineStart). lines_at_starts (s ∷ starts_at (length x) cs) (x ++ text_of cs)) (line_start-entry place (length x))
+    ap (λ (s : LineStart). lines_at_starts (s ∷ starts_at (length x) cs) (x ++ text_of cs)) (line_start-event place (length x))
     ∙ ap₂ (λ (t : List ℕ) (ls : List TextLine). (place, t) ∷ ls) (line-text x cs (first_at (starts_at (length x) cs) (x ++ text_of cs)) (first-before x cs)) (lines-cut x cs)
 lines-cut x (Start style ∷ cs) = lines-cut x cs
 lines-cut x (Claim name place bytes answer ∷ cs) = lines-cut x cs

@@ -1,5 +1,5 @@
 -- The errors of printing over a buffer, and the contents of the buffer after them.
-use Rattle.std.proofs.Common.{◌≡◌, ℕ, ◌≤◌, ◌^◌, List, ◌++◌, length, sym, ap, ◌∙◌, subst, length-append, arith, inl, inr}
+use Rattle.std.proofs.Common.{◌≡◌, ℕ, ◌<◌, List, ◌++◌, length, sym, ap, ◌∙◌, subst, length-append, arith, inl, inr}
 use Rattle.std.specs.Prelude.{false, Result, Ok, Err, IfErr, OnOk}
 use Rattle.std.specs.declared.io.Error.{Error as IoError}
 use Rattle.wasmprinter_bytes.specs.declared.library_error.Error.{Error}
@@ -16,7 +16,7 @@ use Rattle.wasmprinter.proofs.Prefixes.{failed_puts, stopped_puts, refused_puts}
 use Rattle.wasmprinter.proofs.Texts.{first_unclaimed}
 use Rattle.wasmprinter_c.specs.Over.{over}
 use Rattle.wasmprinter_c.specs.Copied.{copied_meaning}
-use Rattle.wasmprinter_c.specs.Lines.{entries}
+use Rattle.wasmprinter_c.specs.Events.{events}
 use Rattle.wasmprinter_c.specs.Refused.{IsTooLong, HasBufferCause, IsBufferRefusal, LeavesBuffer}
 use Rattle.wasmprinter_c.specs.declared.buffer_printer.Copier.{Copier}
 use Rattle.wasmprinter_c.proofs.Runs.{copying, HasCopied, IsFresh, run_copied, claims_never}
@@ -24,16 +24,17 @@ use Rattle.wasmprinter_c.proofs.Runs.{copying, HasCopied, IsFresh, run_copied, c
 -- ---- A printer to which nothing was printed before
 
 module _ (old : Copier) (fresh : IsFresh old) where
-  -- If a call failed, the text of the layout can't be counted.
-  pub broken_long : (new : Copier) (x : IoError) (l : List Call) → Broken copied_meaning old new x l → 2 ^ 64 ≤ length (text_of l)
+  -- If a call failed, the text of the layout is longer than the limit.
+  pub broken_long : (new : Copier) (x : IoError) (l : List Call) → Broken copied_meaning old new x l → old.limit < length (text_of l)
   broken_long new x l b =
-      let has : HasCopied old (text_of b.calls) (entries 0 b.calls) b.before = run_copied old b.before b.calls fresh b.run in
+      let has : HasCopied old (text_of b.calls) (events old.all_events 0 b.calls) b.before = run_copied old b.before b.calls fresh b.run in
       let n₁ = ap length (broken_parts copied_meaning old new x l b) in
       let n₂ = length-append (text_of b.calls) (call_text b.call ++ text_of b.rest) in
       let n₃ = length-append (call_text b.call) (text_of b.rest) in
       let counted = has.counted in
       let may = b.failed.may in
-      omega (arith, n₁, n₂, n₃, counted, may)
+      let limit = has.same_limit in
+      omega (arith, n₁, n₂, n₃, counted, may, limit)
 
   module _ (o : Options) (bytes : List ℕ) (new : Copier) where
     -- This text was written over the buffer.
@@ -46,14 +47,14 @@ module _ (old : Copier) (fresh : IsFresh old) where
     broken_written : (x : IoError) (l : List Call) (b : Broken copied_meaning old new x l) → IsWritten (text_of b.calls)
     broken_written x l b = ap (λ (c : Copier). c.out.now) b.failed.left ∙ (run_copied old b.before b.calls fresh b.run).copied
 
-    too_long : (x : IoError) → Leaves (copying old new) false o bytes (Printer x) → IsTooLong o bytes
+    too_long : (x : IoError) → Leaves (copying old new) false o bytes (Printer x) → IsTooLong o bytes old.limit
     too_long x h = record {
       decoded = h.decoded;
       answers = h.answers;
       long = broken_long new x (layout (with_color o false) h.answers h.decoded.placed) h.left;
     }
 
-    buffer_cause : (e : Error) → Leaves (copying old new) false o bytes e → HasListedCause (copying old new) o bytes e → HasBufferCause o bytes e
+    buffer_cause : (e : Error) → Leaves (copying old new) false o bytes e → HasListedCause (copying old new) o bytes e → HasBufferCause o bytes old.limit e
     buffer_cause (Malformed place) l h = h
     buffer_cause Component l h = h
     buffer_cause (TooManyLocals place) l h = h
@@ -87,7 +88,7 @@ module _ (old : Copier) (fresh : IsFresh old) where
     leaves_buffer _ h = absurd h
 
     pub if_err_refusal : {T : Type 0} (r : Result T Error) → IfErr r (Leaves (copying old new) false o bytes) →
-        IfErr r (IsPrintRefusal (copying old new) o bytes) → IfErr r (IsBufferRefusal o bytes)
+        IfErr r (IsPrintRefusal (copying old new) o bytes) → IfErr r (IsBufferRefusal o bytes old.limit)
     if_err_refusal (Ok x) l h = tt
     if_err_refusal (Err e) l h = record { true_of = h.true_of; caused = buffer_cause e l h.caused }
 
@@ -100,15 +101,15 @@ module _ (old : Copier) (fresh : IsFresh old) where
 
   pub record AreSame (new : Copier) : Type 0 where
     pub buffer : new.out.ghost_name ≡ old.out.ghost_name
-    pub table : new.lines.ghost_name ≡ old.lines.ghost_name
+    pub table : new.table.ghost_name ≡ old.table.ghost_name
 
   run_same : (new : Copier) (calls : List Call) → Run copied_meaning old calls new → AreSame new
   run_same new calls r =
-      let has : HasCopied old (text_of calls) (entries 0 calls) new = run_copied old new calls fresh r in
+      let has : HasCopied old (text_of calls) (events old.all_events 0 calls) new = run_copied old new calls fresh r in
       record { buffer = has.same_buffer; table = has.same_table }
 
   unchanged_same : (new : Copier) → new ≡ old → AreSame new
-  unchanged_same new e = record { buffer = ap (λ (c : Copier). c.out.ghost_name) e; table = ap (λ (c : Copier). c.lines.ghost_name) e }
+  unchanged_same new e = record { buffer = ap (λ (c : Copier). c.out.ghost_name) e; table = ap (λ (c : Copier). c.table.ghost_name) e }
 
   module _ (o : Options) (bytes : List ℕ) (new : Copier) where
     memory_same : LeavesBeginning (copying old new) false o bytes → AreSame new

@@ -8,7 +8,7 @@ use Rattle.wasmprinter_spec.specs.Options.{Options}
 use Rattle.wasmprinter.specs.Change.{change}
 use Rattle.wasmprinter.specs.AnsiText.{ansi_text_meaning}
 use Rattle.wasmprinter.proofs.Outcomes.{refusal_cause}
-use Rattle.wasmprinter_c.specs.Printing.{Buffers}
+use Rattle.wasmprinter_c.specs.Printing.{Request, Buffers}
 use Rattle.wasmprinter_c.specs.Refused.{number_of, detail_in, IsCopied, HasBufferCause, IsBufferRefusal, IsTrueOrUncopied, LeavesBuffer}
 use Rattle.wasmprinter_c.specs.Outcomes.{IsOutcome}
 use Rattle.wasmprinter_c.specs.declared.Outcome.{Outcome}
@@ -76,10 +76,11 @@ two_true o bytes Memory h n = absurd (omega (arith, n))
 abbrev outcome_of : Error → Outcome
 outcome_of e = record { status = number_of e; length = 0; count = 0; detail = detail_in e }
 
-module _ (o : Options) (bytes : List ℕ) (b : Buffers) where
+module _ (r : Request) (bytes : List ℕ) (b : Buffers) where
   -- An error for a module with a valid indent, or for a component, has its outcome.
-  error_outcome : (e : Error) → IsTrueOrUncopied o bytes e → HasBufferCause o bytes e → LeavesBuffer o bytes e b.old b.new →
-      (IsComponent bytes → number_of e ≡ 2) → (¬ IsComponent bytes → IsUtf8 o.indent) → IsOutcome o bytes b (outcome_of e)
+  error_outcome : (e : Error) → IsTrueOrUncopied r.options bytes e → HasBufferCause r.options bytes r.limit e →
+      LeavesBuffer r.options bytes e b.old b.new → (IsComponent bytes → number_of e ≡ 2) → (¬ IsComponent bytes → IsUtf8 r.options.indent) →
+      IsOutcome r bytes b (outcome_of e)
   error_outcome e is_so caused left two valid = record {
     printed = λ z. absurd (not_zero e z);
     refused = λ z t. record {
@@ -92,40 +93,41 @@ module _ (o : Options) (bytes : List ℕ) (b : Buffers) where
       uncounted = refl;
       unlisted = refl;
     };
-    component = (two_true o bytes e is_so, two);
+    component = (two_true r.options bytes e is_so, two);
     wrong_indent = (λ t. absurd (not_twelve e t), λ w. absurd (w.1 (valid w.0)));
     untouched = λ t. absurd (not_twelve e t);
     known = not_thirteen e;
     no_detail = λ h. absurd (no_such_error e h);
   }
 
-  component_outcome : b.new ≡ b.old → IsComponent bytes → IsOutcome o bytes b (outcome_of Component)
+  component_outcome : b.new ≡ b.old → IsComponent bytes → IsOutcome r bytes b (outcome_of Component)
   component_outcome same c =
-      error_outcome Component (inl c) (refusal_cause (change ansi_text_meaning [] []) o bytes Component c) same (λ h. refl) (λ unmarked. absurd (unmarked c))
+      error_outcome Component (inl c) (refusal_cause (change ansi_text_meaning [] []) r.options bytes Component c) same (λ h. refl) (λ unmarked. absurd (unmarked c))
 
-  memory_outcome : b.new ≡ b.old → ¬ IsComponent bytes → IsUtf8 o.indent → IsCopied o.indent → IsOutcome o bytes b (outcome_of Memory)
+  memory_outcome : b.new ≡ b.old → ¬ IsComponent bytes → IsUtf8 r.options.indent → IsCopied r.options.indent → IsOutcome r bytes b (outcome_of Memory)
   memory_outcome same unmarked valid copied =
       error_outcome Memory (inr (refl, copied)) (λ placed s. inr copied) (inl same) (λ c. absurd (unmarked c)) (λ n. valid)
 
-  refused_outcome : (e : Error) → ¬ IsComponent bytes → IsUtf8 o.indent → IsBufferRefusal o bytes e → LeavesBuffer o bytes e b.old b.new →
-      IsOutcome o bytes b (outcome_of e)
+  refused_outcome : (e : Error) → ¬ IsComponent bytes → IsUtf8 r.options.indent → IsBufferRefusal r.options bytes r.limit e →
+      LeavesBuffer r.options bytes e b.old b.new → IsOutcome r bytes b (outcome_of e)
   refused_outcome e unmarked valid refused left = error_outcome e (inl refused.true_of) refused.caused left (λ c. absurd (unmarked c)) (λ n. valid)
 
 -- ---- The result of the function that prints
 
-module _ (bytes : List ℕ) (b : Buffers) (r : Outcome) (p : Options) where
-  by_result : (e : Error) → r ≡ outcome_of e → IsOutcome p bytes b (outcome_of e) → IsOutcome p bytes b r
+module _ (bytes : List ℕ) (b : Buffers) (outcome : Outcome) (p : Request) where
+  by_result : (e : Error) → outcome ≡ outcome_of e → IsOutcome p bytes b (outcome_of e) → IsOutcome p bytes b outcome
   by_result e is h = subst (IsOutcome p bytes b) (sym is) h
 
-  pub marked_by : b.new ≡ b.old → IsComponent bytes → r ≡ outcome_of Component → IsOutcome p bytes b r
+  pub marked_by : b.new ≡ b.old → IsComponent bytes → outcome ≡ outcome_of Component → IsOutcome p bytes b outcome
   marked_by same c is = by_result Component is (component_outcome p bytes b same c)
 
-  pub uncopied_by : b.new ≡ b.old → ¬ IsComponent bytes → IsUtf8 p.indent → IsCopied p.indent → r ≡ outcome_of Memory → IsOutcome p bytes b r
+  pub uncopied_by : b.new ≡ b.old → ¬ IsComponent bytes → IsUtf8 p.options.indent → IsCopied p.options.indent → outcome ≡ outcome_of Memory →
+      IsOutcome p bytes b outcome
   uncopied_by same unmarked valid copied is = by_result Memory is (memory_outcome p bytes b same unmarked valid copied)
 
-  pub refused_by : (o : Options) (e : Error) → o ≡ p → ¬ IsComponent bytes → IsUtf8 p.indent → IsBufferRefusal o bytes e →
-      LeavesBuffer o bytes e b.old b.new → r ≡ outcome_of e → IsOutcome p bytes b r
+  pub refused_by : (o : Options) (e : Error) → o ≡ p.options → ¬ IsComponent bytes → IsUtf8 p.options.indent → IsBufferRefusal o bytes p.limit e →
+      LeavesBuffer o bytes e b.old b.new → outcome ≡ outcome_of e → IsOutcome p bytes b outcome
   refused_by o e same unmarked valid refused left is =
       by_result e is
-      (refused_outcome p bytes b e unmarked valid (subst (λ (x : Options). IsBufferRefusal x bytes e) same refused)
+      (refused_outcome p bytes b e unmarked valid (subst (λ (x : Options). IsBufferRefusal x bytes p.limit e) same refused)
       (subst (λ (x : Options). LeavesBuffer x bytes e b.old b.new) same left))

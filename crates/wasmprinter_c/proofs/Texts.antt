@@ -11,7 +11,7 @@ use Rattle.wasmprinter_text.proofs.Digits.{digits-length}
 use Rattle.wasmprinter_print.specs.Made.{Whole, Broken, Made, outcome}
 use Rattle.wasmprinter_c.specs.Over.{over}
 use Rattle.wasmprinter_c.specs.Copied.{copied_meaning}
-use Rattle.wasmprinter_c.specs.Lines.{entries}
+use Rattle.wasmprinter_c.specs.Events.{events}
 use Rattle.wasmprinter_c.specs.Messages.{message, with_place, with_number}
 use Rattle.wasmprinter_c.specs.declared.buffer_printer.Copier.{Copier}
 use Rattle.wasmprinter_c.proofs.Runs.{HasCopied, IsFresh, run_copied}
@@ -61,11 +61,11 @@ pub record HasAll (old : Copier) (text : List ℕ) (new : Copier) : Type 0 where
   pub copied : new.out.now ≡ over text old.out.now
   pub counted : new.written ≡ length text
   pub same_buffer : new.out.ghost_name ≡ old.out.ghost_name
-  pub same_table : new.lines.ghost_name ≡ old.lines.ghost_name
+  pub same_table : new.table.ghost_name ≡ old.table.ghost_name
 
 whole_written : (old new : Copier) (text : List ℕ) → IsFresh old → Whole copied_meaning old new (Text text ∷ []) → HasAll old text new
 whole_written old new text fresh w =
-    let has : HasCopied old (text_of w.calls) (entries 0 w.calls) new = run_copied old new w.calls fresh w.run in
+    let has : HasCopied old (text_of w.calls) (events old.all_events 0 w.calls) new = run_copied old new w.calls fresh w.run in
     let is : text_of w.calls ≡ text = alike_texts w.calls (Text text ∷ []) w.alike ∙ append-nil text in
     record {
       copied = has.copied ∙ ap (λ (t : List ℕ). over t old.out.now) is;
@@ -74,18 +74,18 @@ whole_written old new text fresh w =
       same_table = has.same_table;
     }
 
-never_broken : (old new : Copier) (x : IoError) (text : List ℕ) → IsFresh old → IsShort text → Broken copied_meaning old new x (Text text ∷ []) → ⊥
-never_broken old new x text fresh short b =
+never_broken : (old new : Copier) (x : IoError) (text : List ℕ) → IsFresh old → 200 ≤ old.limit → IsShort text → Broken copied_meaning old new x (Text text ∷ []) → ⊥
+never_broken old new x text fresh roomy short b =
     let long = broken_long old fresh new x (Text text ∷ []) b in
     let same = ap length (append-nil text) in
-    omega (arith, long, same, short)
+    omega (arith, long, same, roomy, short)
 
-emitted : (old new : Copier) (r : Result (Unit {0}) Error) (text : List ℕ) → IsFresh old → IsShort text → Made copied_meaning old new (outcome r) (Text text ∷ []) → HasAll old text new
-emitted old new (Ok x) text fresh short m = whole_written old new text fresh m.made
-emitted old new (Err (Printer e)) text fresh short m = absurd (never_broken old new e text fresh short m.made)
-emitted old new (Err _) text fresh short m = absurd m.made
+emitted : (old new : Copier) (r : Result (Unit {0}) Error) (text : List ℕ) → IsFresh old → 200 ≤ old.limit → IsShort text → Made copied_meaning old new (outcome r) (Text text ∷ []) → HasAll old text new
+emitted old new (Ok x) text fresh roomy short m = whole_written old new text fresh m.made
+emitted old new (Err (Printer e)) text fresh roomy short m = absurd (never_broken old new e text fresh roomy short m.made)
+emitted old new (Err _) text fresh roomy short m = absurd m.made
 
-pub described : (old new : Copier) (r : Result (Unit {0}) Error) (status detail : ℕ) → old.written ≡ 0 → old.count ≡ 0 →
+pub described : (old new : Copier) (r : Result (Unit {0}) Error) (status detail : ℕ) → old.written ≡ 0 → old.count ≡ 0 → 200 ≤ old.limit →
     Made copied_meaning old new (outcome r) (Text (message status detail) ∷ []) → HasAll old (message status detail) new
-described old new r status detail text lines m =
-    emitted old new r (message status detail) (record { text = text; lines = lines }) (short_message status detail) m
+described old new r status detail text table roomy m =
+    emitted old new r (message status detail) (record { text = text; table = table }) roomy (short_message status detail) m

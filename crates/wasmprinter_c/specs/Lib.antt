@@ -1,6 +1,6 @@
 -- Definitions that the contracts of the library for C cite.
 pub mod Copied
-pub mod Lines
+pub mod Events
 pub mod Messages
 pub mod Outcomes
 pub mod Over

@@ -2,8 +2,7 @@
 use Rattle.std.specs.Prelude.{◌≡◌, ◌↔◌, ◌⊎◌, ℕ, List}
 use Rattle.std.specs.Str.{IsUtf8}
 use Rattle.wasmprinter_spec.specs.Binary.{IsComponent}
-use Rattle.wasmprinter_spec.specs.Options.{Options}
-use Rattle.wasmprinter_c.specs.Printing.{Buffers, HasLinesOver}
+use Rattle.wasmprinter_c.specs.Printing.{Request, Buffers, HasEventsOver}
 use Rattle.wasmprinter_c.specs.Refused.{IsRefusedWith}
 use Rattle.wasmprinter_c.specs.Statuses.{ok_status, component_status, indent_status, option_status}
 use Rattle.wasmprinter_c.specs.declared.Outcome.{Outcome}
@@ -22,17 +21,17 @@ pub record DoesNothing (b : Buffers) (detail : ℕ) (stored : WasmprinterResult)
   pub detailed : stored.detail ≡ detail
 
 -- The outcome of a call that prints a module, if the flags have no unknown bit.
-pub record IsOutcome (o : Options) (bytes : List ℕ) (b : Buffers) (outcome : Outcome) : Type 0 where
+pub record IsOutcome (r : Request) (bytes : List ℕ) (b : Buffers) (outcome : Outcome) : Type 0 where
   -- If the status is `ok_status`, the module was printed: the buffer has the first bytes of its text and the table
-  -- has its first lines, as many as fit.
-  pub printed : outcome.status ≡ ok_status → HasLinesOver o bytes b outcome.length outcome.count
+  -- has its first events, as many as fit.
+  pub printed : outcome.status ≡ ok_status → HasEventsOver r bytes b outcome.length outcome.count
   -- Any status except `ok_status` and `indent_status` is the number of an error for which the module was refused.
-  pub refused : ¬ (outcome.status ≡ ok_status) → ¬ (outcome.status ≡ indent_status) → IsRefusedWith o bytes b.old b.new outcome
+  pub refused : ¬ (outcome.status ≡ ok_status) → ¬ (outcome.status ≡ indent_status) → IsRefusedWith r bytes b outcome
   -- The status is `component_status` if and only if the bytes are marked as a component.
   pub component : (outcome.status ≡ component_status) ↔ IsComponent bytes
   -- The status is `indent_status` if and only if the indent is not UTF-8 and the bytes are not marked as a component.
-  pub wrong_indent : (outcome.status ≡ indent_status) ↔ ((¬ IsComponent bytes) × (¬ IsUtf8 o.indent))
-  -- If the status is `indent_status`, the buffer is unchanged, and the counts of bytes and lines are 0.
+  pub wrong_indent : (outcome.status ≡ indent_status) ↔ ((¬ IsComponent bytes) × (¬ IsUtf8 r.options.indent))
+  -- If the status is `indent_status`, the buffer is unchanged, and the counts of bytes and events are 0.
   pub untouched : outcome.status ≡ indent_status → (b.new ≡ b.old) × (outcome.length ≡ 0) × (outcome.count ≡ 0)
   -- The status is not the one for an unknown bit.
   pub known : ¬ (outcome.status ≡ option_status)

@@ -9,7 +9,7 @@ ghost use Rattle.wasmprinter_spec.specs.Binary.{IsComponent};
 ghost use Rattle.wasmprinter_spec.specs.Binary.Limits.{has_bit as bit_of};
 ghost use Rattle.wasmprinter_c.specs.Over.{over};
 ghost use Rattle.wasmprinter_c.specs.Messages.{message};
-ghost use Rattle.wasmprinter_c.specs.Printing.{options_of, unknown_bits, HasUnknownBit, buffers, HasLinesOver};
+ghost use Rattle.wasmprinter_c.specs.Printing.{options_of, request, request_of, unknown_bits, HasUnknownBit, buffers, HasEventsOver};
 ghost use Rattle.wasmprinter_c.specs.Refused.{number_of, detail_in, IsCopied, IsBufferRefusal, LeavesBuffer};
 ghost use Rattle.wasmprinter_c.specs.Outcomes.{IsOutcome, outcome_with, DoesNothing};
 ghost use Rattle.wasmprinter_c.specs.Statuses.{option_status, library_version, library_revision};
@@ -19,7 +19,7 @@ mod messages;
 mod status;
 
 use buffer_printer::Copier;
-pub use buffer_printer::WasmprinterLine;
+pub use buffer_printer::WasmprinterEvent;
 use messages::describe;
 use status::{BAD_INDENT, PRINTED, UNKNOWN_OPTION, detail_of, status_of};
 use std::alloc::{AllocError, Global};
@@ -48,15 +48,18 @@ const NAME_UNNAMED: u32 = 2;
 /// The bit of the flags for [`Config::fold_instructions`].
 const FOLD: u32 = 3;
 
+/// The bit of the flags for a table of all events.
+const EVENTS: u32 = 4;
+
 /// The least flags that choose an unknown option: a power of two. Each bit from this one on is unknown.
-const FIRST_UNKNOWN: u32 = 16;
+const FIRST_UNKNOWN: u32 = 32;
 
 /// The lengths that printing stores, and the detail of an error.
 #[repr(C)]
 pub struct WasmprinterResult {
     /// The length of the whole text in bytes, or 0 after an error.
     pub length: usize,
-    /// The number of lines of the whole text, or 0 after an error.
+    /// The number of all events, or of the lines alone, or 0 after an error.
     pub count: usize,
     /// The place, the count, the id or the bits of an error, or 0 if it has none.
     pub detail: u64,
@@ -69,7 +72,7 @@ struct Outcome {
     status: u32,
     /// The length of the text in bytes, or 0 after an error.
     length: usize,
-    /// The number of its lines, or 0 after an error.
+    /// The number of its events, or 0 after an error.
     count: usize,
     /// The detail of the error, or 0 if it has none.
     detail: u64,
@@ -80,7 +83,7 @@ struct Outcome {
 struct Extent {
     /// The length of the text in bytes.
     length: usize,
-    /// The number of its lines.
+    /// The number of its events.
     count: usize,
 }
 
@@ -125,7 +128,8 @@ fn indented(alloc: Global, flags: u32, indent: &str) -> Result<Config, AllocErro
     Ok(config)
 }
 
-/// Prints a module to a printer over a buffer, to which nothing was printed before.
+/// Prints a module to a printer over a buffer, to which nothing was printed before. The text has at most as many bytes
+/// as the printer's limit.
 fn print_to(
     alloc: Global,
     config: &Config,
@@ -133,35 +137,37 @@ fn print_to(
     copier: &mut Copier<'_>,
 ) -> Result<(), Error>
     requires no_text { copier.old.written ≡ 0 }
-    requires no_line { copier.old.count ≡ 0 }
+    requires no_event { copier.old.count ≡ 0 }
     ensures same_buffer { copier.new.out.ghost_name ≡ copier.old.out.ghost_name }
-    ensures same_table { copier.new.lines.ghost_name ≡ copier.old.lines.ghost_name }
-    ensures printed { OnOk result (HasLinesOver config.now wasm.now
-        (buffers copier.old.out.now copier.new.out.now copier.old.lines.now copier.new.lines.now)
+    ensures same_table { copier.new.table.ghost_name ≡ copier.old.table.ghost_name }
+    ensures printed { OnOk result (HasEventsOver (request config.now copier.old.all_events copier.old.limit) wasm.now
+        (buffers copier.old.out.now copier.new.out.now copier.old.table.now copier.new.table.now)
         copier.new.written copier.new.count) }
-    ensures refused { IfErr result (IsBufferRefusal config.now wasm.now) }
+    ensures refused { IfErr result (IsBufferRefusal config.now wasm.now copier.old.limit) }
     ensures left { IfErr result (λ e. LeavesBuffer config.now wasm.now e copier.old.out.now copier.new.out.now) }
     ensures component { IsErrOf result Error.Component ↔ IsComponent wasm.now }
 {
     config.print(alloc, wasm, copier)
 }
 
-/// Prints the first bytes and the first lines, as many as fit, and returns the length and the number of lines of
-/// the whole text.
+/// Prints the first bytes and the first events, as many as fit, and returns the length and the number of events of
+/// the whole text. Returns an error if the text has more than `limit` bytes.
 fn print_over(
     alloc: Global,
     config: &Config,
     wasm: &[u8],
+    all_events: bool,
+    limit: usize,
     out: &mut [u8],
-    lines: &mut [WasmprinterLine],
+    table: &mut [WasmprinterEvent],
 ) -> Result<Extent, Error>
     ensures printed { IfOk result (λ x.
-        HasLinesOver config.now wasm.now (buffers out.old out.new lines.old lines.new) x.length x.count) }
-    ensures refused { IfErr result (IsBufferRefusal config.now wasm.now) }
+        HasEventsOver (request config.now all_events limit) wasm.now (buffers out.old out.new table.old table.new) x.length x.count) }
+    ensures refused { IfErr result (IsBufferRefusal config.now wasm.now limit) }
     ensures left { IfErr result (λ e. LeavesBuffer config.now wasm.now e out.old out.new) }
     ensures component { IsErrOf result Error.Component ↔ IsComponent wasm.now }
 {
-    let mut copier = Copier::new(out, lines);
+    let mut copier = Copier::new(all_events, limit, out, table);
     print_to(alloc, config, wasm, &mut copier)?;
     Ok(Extent {
         length: copier.length(),
@@ -181,17 +187,18 @@ fn refused(error: &Error) -> Outcome
     }
 }
 
-/// Prints a module with the options that the flags choose: the first bytes of its text and its first lines, as many
-/// as fit. A component is reported before an invalid indent.
+/// Prints a module with the options that the flags choose: the first bytes of its text and its first events, as
+/// many as fit. The text has at most `limit` bytes. A component is reported before an invalid indent.
 fn print_by(
     alloc: Global,
     wasm: &[u8],
     flags: u32,
     indent: &[u8],
+    limit: usize,
     out: &mut [u8],
-    lines: &mut [WasmprinterLine],
+    table: &mut [WasmprinterEvent],
 ) -> Outcome
-    ensures { IsOutcome (options_of flags indent.now) wasm.now (buffers out.old out.new lines.old lines.new) result }
+    ensures { IsOutcome (request_of flags indent.now limit) wasm.now (buffers out.old out.new table.old table.new) result }
 {
     if is_component(wasm) {
         return refused(&Error::Component);
@@ -207,7 +214,15 @@ fn print_by(
     let Ok(config) = indented(alloc, flags, indent) else {
         return refused(&Error::Memory);
     };
-    match print_over(alloc, &config, wasm, out, lines) {
+    match print_over(
+        alloc,
+        &config,
+        wasm,
+        has_bit(flags, EVENTS),
+        limit,
+        out,
+        table,
+    ) {
         Ok(extent) => Outcome {
             status: PRINTED,
             length: extent.length,
@@ -219,12 +234,14 @@ fn print_by(
 }
 
 /// Prints the text of a module in the binary format over `out`: writes the first bytes of the text, as many as fit.
-/// Writes the entries of its lines over `lines`: the first entries, as many as fit. Returns 0 or the number of an
-/// error.
+/// Writes the starts of its lines or all its events over `table`: the first ones, as many as fit. Returns 0 or the
+/// number of an error.
 ///
 /// The bits of `flags` choose options: bit 0 offsets, bit 1 the skeleton, bit 2 synthesized identifiers, bit 3 folded
-/// operators. Stores in `extent` the length of the whole text and the number of its lines, or 0 after an error, and
-/// the detail of an error, or 0 if there is none. The text was truncated if it is longer than `out`.
+/// operators, bit 4 a table of all events: of styles and custom sections too. The text has at most `limit` bytes:
+/// printing stops before it gets longer. Stores in `extent` the length of the whole text and the number of its lines
+/// or events, or 0 after an error, and the detail of an error, or 0 if there is none. The text was truncated if it is
+/// longer than `out`.
 ///
 /// # Errors
 ///
@@ -240,25 +257,26 @@ fn print_by(
 /// - 7, only if operators are folded: folded text has nowhere to put a branch hint. The detail is the place of the
 ///   hint.
 /// - 8: a custom section `dylink.0` has an unknown subsection. The detail is its id.
-/// - 10: the text has more than `usize::MAX` bytes.
+/// - 10: the text has more than `limit` bytes.
 /// - 11: an allocation failed.
 ///
 /// After the errors 8, 10 and, if operators are folded, 11, `out` may hold a prefix of the text. After any other error
-/// it is unchanged. After an error the entries of `lines` are not specified.
+/// it is unchanged. After an error the entries of `table` are not specified.
 #[unsafe(no_mangle)]
 pub extern "C" fn wasmprinter_raw_print(
     alloc: Global,
     wasm: &[u8],
     flags: u32,
     indent: &[u8],
+    limit: usize,
     out: &mut [u8],
-    lines: &mut [WasmprinterLine],
+    table: &mut [WasmprinterEvent],
     extent: &mut WasmprinterResult,
 ) -> u32
     ensures unknown { result ≡ option_status ↔ HasUnknownBit flags }
-    ensures nothing { HasUnknownBit flags → DoesNothing (buffers out.old out.new lines.old lines.new) (unknown_bits flags) extent.new }
+    ensures nothing { HasUnknownBit flags → DoesNothing (buffers out.old out.new table.old table.new) (unknown_bits flags) extent.new }
     ensures outcome { ¬ HasUnknownBit flags →
-        IsOutcome (options_of flags indent.now) wasm.now (buffers out.old out.new lines.old lines.new) (outcome_with result extent.new) }
+        IsOutcome (request_of flags indent.now limit) wasm.now (buffers out.old out.new table.old table.new) (outcome_with result extent.new) }
 {
     if flags >= FIRST_UNKNOWN {
         extent.length = 0;
@@ -266,7 +284,7 @@ pub extern "C" fn wasmprinter_raw_print(
         extent.detail = u64::from(flags / FIRST_UNKNOWN * FIRST_UNKNOWN);
         return UNKNOWN_OPTION;
     }
-    let outcome = print_by(alloc, wasm, flags, indent, out, lines);
+    let outcome = print_by(alloc, wasm, flags, indent, limit, out, table);
     extent.length = outcome.length;
     extent.count = outcome.count;
     extent.detail = outcome.detail;
@@ -277,13 +295,14 @@ pub extern "C" fn wasmprinter_raw_print(
 /// before.
 fn write_description(copier: &mut Copier<'_>, status: u32, detail: u64)
     requires no_text { copier.old.written ≡ 0 }
-    requires no_line { copier.old.count ≡ 0 }
+    requires no_event { copier.old.count ≡ 0 }
+    requires roomy { 200 ≤ copier.old.limit }
     ensures same_buffer { copier.new.out.ghost_name ≡ copier.old.out.ghost_name }
-    ensures same_table { copier.new.lines.ghost_name ≡ copier.old.lines.ghost_name }
+    ensures same_table { copier.new.table.ghost_name ≡ copier.old.table.ghost_name }
     ensures copied { copier.new.out.now ≡ over (message status detail) copier.old.out.now }
     ensures counted { copier.new.written ≡ length (message status detail) }
 {
-    // This can't fail: a description is shorter than `usize::MAX`.
+    // This can't fail: a description has at most 200 bytes.
     let _ = describe(copier, status, detail);
 }
 
@@ -296,7 +315,7 @@ pub extern "C" fn wasmprinter_raw_error_text(status: u32, detail: u64, out: &mut
     ensures short { result ≤ 200 }
     ensures copied { out.new ≡ over (message status detail) out.old }
 {
-    let mut copier = Copier::new(out, &mut []);
+    let mut copier = Copier::new(false, usize::MAX, out, &mut []);
     write_description(&mut copier, status, detail);
     copier.length()
 }

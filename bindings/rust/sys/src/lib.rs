@@ -60,7 +60,7 @@ pub const WASMPRINTER_DYLINK_SUBSECTION: WasmprinterStatus = 8;
 /// The file can't be read. Never returned: no function reads a file.
 pub const WASMPRINTER_UNREADABLE: WasmprinterStatus = 9;
 
-/// The text has more than `usize::MAX` bytes.
+/// The text is longer than the limit or, without a limit, than `usize::MAX`.
 pub const WASMPRINTER_TOO_LONG: WasmprinterStatus = 10;
 
 /// An allocation failed.
@@ -104,8 +104,9 @@ extern "C" {
     /// lines as fit. Stores the length of the whole text and the number of all lines in `result`, or the detail of an error. Returns
     /// [`WASMPRINTER_OK`] or the number of an error.
     ///
-    /// `flags` is the sum of [`WASMPRINTER_OFFSETS`] and the others. `indent` is the text of one level of nesting, in UTF-8. `lines_len` is
-    /// the capacity of the table in lines. `wasmprinter.h` says what an error leaves in `out` and `lines`.
+    /// `flags` is the sum of [`WASMPRINTER_OFFSETS`] and the others. `indent` is the text of one level of nesting, in UTF-8. `limit` is the
+    /// greatest length of the text, and `usize::MAX` means no limit: printing stops with [`WASMPRINTER_TOO_LONG`] before the text gets longer.
+    /// `lines_len` is the capacity of the table in lines. `wasmprinter.h` says what an error leaves in `out` and `lines`.
     ///
     /// # Safety
     ///
@@ -118,6 +119,7 @@ extern "C" {
         flags: u32,
         indent: *const u8,
         indent_len: usize,
+        limit: usize,
         out: *mut u8,
         out_len: usize,
         lines: *mut WasmprinterLine,

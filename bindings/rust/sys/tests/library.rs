@@ -5,8 +5,12 @@ use wasmprinter_proved_sys::*;
 /// Buffers are filled with this byte before a call.
 const GUARD: u8 = 0xa5;
 
-/// Prints a module over a buffer and a table of one line, and returns them with the status and the result.
-fn print(wasm: &[u8], flags: u32) -> (u32, WasmprinterResult, [u8; 16], WasmprinterLine) {
+/// Prints a module with a limit over a buffer and a table of one line, and returns them with the status and the result.
+fn print(
+    wasm: &[u8],
+    flags: u32,
+    limit: usize,
+) -> (u32, WasmprinterResult, [u8; 16], WasmprinterLine) {
     let indent = b"  ";
     let mut out = [GUARD; 16];
     let mut line = WasmprinterLine {
@@ -23,6 +27,7 @@ fn print(wasm: &[u8], flags: u32) -> (u32, WasmprinterResult, [u8; 16], Wasmprin
             flags,
             indent.as_ptr(),
             indent.len(),
+            limit,
             out.as_mut_ptr(),
             out.len(),
             &mut line,
@@ -43,21 +48,38 @@ fn is_this_release() {
 
 #[test]
 fn prints() {
-    let (status, result, out, line) = print(b"\0asm\x01\0\0\0", 0);
-    assert_eq!(status, WASMPRINTER_OK);
-    assert_eq!((result.length, result.count, result.detail), (9, 1, 0));
-    assert_eq!(&out[..9], b"(module)\n");
-    assert_eq!(out[9..], [GUARD; 7]);
-    assert_eq!((line.start, line.place, line.has_place), (0, 0, 1));
+    for limit in [9, 10, usize::MAX] {
+        let (status, result, out, line) = print(b"\0asm\x01\0\0\0", 0, limit);
+        assert_eq!(status, WASMPRINTER_OK);
+        assert_eq!((result.length, result.count, result.detail), (9, 1, 0));
+        assert_eq!(&out[..9], b"(module)\n");
+        assert_eq!(out[9..], [GUARD; 7]);
+        assert_eq!((line.start, line.place, line.has_place), (0, 0, 1));
+    }
+}
+
+#[test]
+fn stops_before_the_limit() {
+    for limit in 0..9 {
+        let (status, result, out, _) = print(b"\0asm\x01\0\0\0", 0, limit);
+        assert_eq!(status, WASMPRINTER_TOO_LONG);
+        assert_eq!((result.length, result.count, result.detail), (0, 0, 0));
+        let len = out.iter().take_while(|byte| **byte != GUARD).count();
+        assert!(len <= limit);
+        assert_eq!(&out[..len], &b"(module)\n"[..len]);
+        assert!(out[len..].iter().all(|byte| *byte == GUARD));
+    }
 }
 
 #[test]
 fn refuses_unknown_options() {
     let flags = 0x30 | WASMPRINTER_FOLD;
-    let (status, result, out, _) = print(b"\0asm\x01\0\0\0", flags);
-    assert_eq!(status, WASMPRINTER_UNKNOWN_OPTION);
-    assert_eq!((result.length, result.count, result.detail), (0, 0, 0x30));
-    assert_eq!(out, [GUARD; 16]);
+    for limit in [0, 1, usize::MAX] {
+        let (status, result, out, _) = print(b"\0asm\x01\0\0\0", flags, limit);
+        assert_eq!(status, WASMPRINTER_UNKNOWN_OPTION);
+        assert_eq!((result.length, result.count, result.detail), (0, 0, 0x30));
+        assert_eq!(out, [GUARD; 16]);
+    }
 }
 
 #[test]

@@ -5,20 +5,20 @@ use Rattle.wasmprinter_c.proofs.print_to.Goals as goal
 
 pub returns-clause-same_buffer : goal.returns-clause-same_buffer
 returns-clause-same_buffer c =
-    (either_same c.args.copier.now (record { text = c.requires.no_text; lines = c.requires.no_line }) c.args.config.now c.args.wasm.now c.print.new.printer c.print.result c.print.ensures.printed c.print.ensures.left).buffer
+    (either_same c.args.copier.now (record { text = c.requires.no_text; table = c.requires.no_event }) c.args.config.now c.args.wasm.now c.print.new.printer c.print.result c.print.ensures.printed c.print.ensures.left).buffer
 
 pub returns-clause-same_table : goal.returns-clause-same_table
 returns-clause-same_table c =
-    (either_same c.args.copier.now (record { text = c.requires.no_text; lines = c.requires.no_line }) c.args.config.now c.args.wasm.now c.print.new.printer c.print.result c.print.ensures.printed c.print.ensures.left).table
+    (either_same c.args.copier.now (record { text = c.requires.no_text; table = c.requires.no_event }) c.args.config.now c.args.wasm.now c.print.new.printer c.print.result c.print.ensures.printed c.print.ensures.left).table
 
 pub returns-clause-printed : goal.returns-clause-printed
 returns-clause-printed c =
-    on_ok_over c.args.config.now c.args.wasm.now c.args.copier.now c.print.new.printer c.print.result (record { text = c.requires.no_text; lines = c.requires.no_line }) c.print.ensures.printed
+    on_ok_over c.args.config.now c.args.wasm.now c.args.copier.now c.print.new.printer c.print.result (record { text = c.requires.no_text; table = c.requires.no_event }) c.print.ensures.printed
 
 pub returns-clause-refused : goal.returns-clause-refused
 returns-clause-refused c =
-    if_err_refusal c.args.copier.now (record { text = c.requires.no_text; lines = c.requires.no_line }) c.args.config.now c.args.wasm.now c.print.new.printer c.print.result c.print.ensures.left c.print.ensures.refused
+    if_err_refusal c.args.copier.now (record { text = c.requires.no_text; table = c.requires.no_event }) c.args.config.now c.args.wasm.now c.print.new.printer c.print.result c.print.ensures.left c.print.ensures.refused
 
 pub returns-clause-left : goal.returns-clause-left
 returns-clause-left c =
-    if_err_left c.args.copier.now (record { text = c.requires.no_text; lines = c.requires.no_line }) c.args.config.now c.args.wasm.now c.print.new.printer c.print.result c.print.ensures.left
+    if_err_left c.args.copier.now (record { text = c.requires.no_text; table = c.requires.no_event }) c.args.config.now c.args.wasm.now c.print.new.printer c.print.result c.print.ensures.left

@@ -2,8 +2,8 @@ use Rattle.std.proofs.Common.{◌∷◌, [], arith}
 use Rattle.wasmprinter_c.proofs.Overs.{set_over, put_past}
 use Rattle.wasmprinter_c.proofs.buffer_printer.enter.Goals as goal
 
-pub returns-then-index-lines : goal.returns-then-index-lines
-returns-then-index-lines c = set_over c.args.index c.args.lines.now c.args.line
+pub returns-then-index-table : goal.returns-then-index-table
+returns-then-index-table c = set_over c.args.index c.args.table.now c.args.entry
 
-pub returns-else-index-lines : goal.returns-else-index-lines
-returns-else-index-lines c = put_past c.args.index c.args.lines.now (c.args.line ∷ []) (omega (arith, c.if-index-lines.false))
+pub returns-else-index-table : goal.returns-else-index-table
+returns-else-index-table c = put_past c.args.index c.args.table.now (c.args.entry ∷ []) (omega (arith, c.if-index-table.false))
