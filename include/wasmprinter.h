@@ -64,7 +64,8 @@ enum {
     WASMPRINTER_OFFSETS = 1,      /* begin each line after the first with its place, or with spaces if it has none */
     WASMPRINTER_SKELETON = 2,     /* leave out bodies, items of element segments, and bytes of data segments and custom sections */
     WASMPRINTER_NAME_UNNAMED = 4, /* synthesize identifiers for items without a name */
-    WASMPRINTER_FOLD = 8          /* put each operator in parentheses with its operands */
+    WASMPRINTER_FOLD = 8,         /* put each operator in parentheses with its operands */
+    WASMPRINTER_EVENTS = 16       /* fill the table with all events, not only with the starts of lines */
 };
 
 /* The options of printing. Initialise every field: `WasmprinterOptions options = {0};` is the default in C, `= {}` in C++. */
@@ -104,30 +105,48 @@ enum {
 /* What a call that prints stores. */
 typedef struct WasmprinterResult {
     size_t length;   /* the length of the whole text, or 0 after an error */
-    size_t count;    /* the number of lines of the whole text, or 0 after an error; line feeds of the indent start no line */
+    size_t count;    /* the number of lines of the whole text, with WASMPRINTER_EVENTS of all its events, or 0 after an error */
     uint64_t detail; /* the detail of an error, or 0 */
 } WasmprinterResult;
 
-/* A line of the text. A line ends where the next one starts, or at the end of the text. Its last byte is a line feed. */
-typedef struct WasmprinterLine {
-    size_t start;       /* the byte offset of the line from the start of the text */
-    uint64_t place;     /* the place of the line in the module, or 0 if has_place is 0 */
-    uint32_t has_place; /* 1 if the line has a place, 0 if it shows nothing of the module */
-} WasmprinterLine;
+/* The kinds of events. A later release may add kinds: ignore events of unknown kinds.
+ *
+ * A line ends where the next one starts, or at the end of the text. Its last byte is a line feed. Line feeds of the indent start no line.
+ * A style lasts until the next style event, one of the kinds WASMPRINTER_NAME to WASMPRINTER_RESET. WASMPRINTER_RESET does not bring back an
+ * earlier style. With WASMPRINTER_FOLD there are no style events inside the text of a folded operator. */
+enum {
+    WASMPRINTER_LINE = 0,          /* a line starts that shows nothing of the module */
+    WASMPRINTER_LINE_AT_PLACE = 1, /* a line with a place starts */
+    WASMPRINTER_NAME = 2,          /* the style of names and indices starts */
+    WASMPRINTER_LITERAL = 3,       /* the style of numbers and strings starts */
+    WASMPRINTER_KEYWORD = 4,       /* the style of keywords starts */
+    WASMPRINTER_TYPE = 5,          /* the style of types starts */
+    WASMPRINTER_COMMENT = 6,       /* the style of comments starts */
+    WASMPRINTER_RESET = 7,         /* the style ends */
+    WASMPRINTER_CUSTOM_SECTION = 8 /* the lines of a custom section follow, if it is printed */
+};
 
-/* A table for the lines of a text. */
+/* An event of the text. The events are in the order of printing: no `start` is less than the one before, and several can be equal. */
+typedef struct WasmprinterEvent {
+    size_t start;   /* the byte offset of the event from the start of the text */
+    uint64_t place; /* of a line with a place: its place; of a custom section: the place of its data; otherwise 0 */
+    uint32_t kind;  /* WASMPRINTER_LINE or another kind */
+} WasmprinterEvent;
+
+/* A table for the events of a text. */
 typedef struct WasmprinterTable {
-    WasmprinterLine *ptr;
-    size_t len; /* the capacity in lines */
+    WasmprinterEvent *ptr;
+    size_t len; /* the capacity in events */
 } WasmprinterTable;
 
 /* ---- The exported functions. The functions below call them, and are easier to call. */
 
-/* Prints a module, as wasmprinter_print_lines does. `flags` are the options. `limit` is the greatest length of the text, and SIZE_MAX means no
- * limit. With limit 0 every module that would be printed gives WASMPRINTER_TOO_LONG. No pointer may be null, even if its length is 0. */
+/* Prints a module, as wasmprinter_print_lines does. `flags` are the options, and `table` receives the lines or the events. `limit` is the
+ * greatest length of the text, and SIZE_MAX means no limit. With limit 0 every module that would be printed gives WASMPRINTER_TOO_LONG. No
+ * pointer may be null, even if its length is 0. */
 WASMPRINTER_NONNULL WasmprinterStatus wasmprinter_raw_print(const uint8_t *wasm, size_t wasm_len, uint32_t flags, const uint8_t *indent,
                                                             size_t indent_len, size_t limit, uint8_t *out, size_t out_len,
-                                                            WasmprinterLine *lines, size_t lines_len, WasmprinterResult *result);
+                                                            WasmprinterEvent *table, size_t table_len, WasmprinterResult *result);
 
 /* Writes the description of a status with its detail to `out`: as many of its first bytes as fit. Returns the length of the whole
  * description. `out` may not be null. Allocates nothing. */
@@ -160,8 +179,9 @@ WASMPRINTER_INLINE WasmprinterBuffer wasmprinter_buffer(char *ptr, size_t len) {
 
 /* Prints the text of a module to `out`, as snprintf does: writes as many of the first bytes of the text as fit, and stores the length of
  * the whole text. The text is truncated if result->length > out.len. A call with an empty `out` only measures, and nothing is written if
- * out.ptr is null, even if result->length <= out.len. Writes a table of the lines to `lines`: as many of the first lines as fit, none if
- * lines.ptr is null. What follows the text in `out` and the last line in `lines` is unchanged.
+ * out.ptr is null, even if result->length <= out.len. Writes a table of the starts of the lines to `lines`: as many of the first lines as fit,
+ * none if lines.ptr is null. With WASMPRINTER_EVENTS it does the same with all events. What follows the text in `out` and the last entry in
+ * `lines` is unchanged.
  *
  * wasm     the bytes of the module; any bytes are allowed
  * options  the options of printing, or null for the default
@@ -184,7 +204,7 @@ WASMPRINTER_INLINE WasmprinterStatus wasmprinter_print_lines(WasmprinterBytes wa
                                                         WasmprinterTable lines, WasmprinterResult *result) {
     static const uint8_t default_indent[2] = {' ', ' '};
     uint8_t no_bytes[1] = {0};
-    WasmprinterLine no_lines[1] = {{0, 0, 0}};
+    WasmprinterEvent no_lines[1] = {{0, 0, 0}};
     WasmprinterResult own_result = {0, 0, 0};
     const void *bytes = wasm.ptr;
     const void *indent = default_indent;
@@ -230,6 +250,21 @@ WASMPRINTER_INLINE WasmprinterStatus wasmprinter_print(WasmprinterBytes wasm, co
     no_lines.ptr = NULL;
     no_lines.len = 0;
     return wasmprinter_print_lines(wasm, options, out, no_lines, result);
+}
+
+/* Does the same as wasmprinter_print_lines with WASMPRINTER_EVENTS, whether `options` has this flag or not. */
+WASMPRINTER_INLINE WasmprinterStatus wasmprinter_print_events(WasmprinterBytes wasm, const WasmprinterOptions *options, WasmprinterBuffer out,
+                                                         WasmprinterTable events, WasmprinterResult *result) {
+    WasmprinterOptions chosen;
+    if (options != NULL) {
+        chosen = *options;
+    } else {
+        chosen.flags = 0;
+        chosen.indent = wasmprinter_bytes(NULL, 0);
+        chosen.limit = 0;
+    }
+    chosen.flags |= WASMPRINTER_EVENTS;
+    return wasmprinter_print_lines(wasm, &chosen, out, events, result);
 }
 
 /* Changes the length of a block, as realloc does: `block` may be null, and null is returned if memory is missing. `len` is not 0. */

@@ -1,8 +1,8 @@
 #!/bin/sh
 # Tests the bindings in bindings/: builds the library, and checks in C, C++, Rust and Python that every case of bindings/cases.txt prints as
-# typed. In C and C++ it also checks the inline functions of the header without the library (wrappers.c), lets allocations fail (memory.c), prints
-# between guard pages (guard.c), with limits (limit.c) and in many threads (threads.c). Uses the machine's `cc`, `c++`, `cargo --offline` and
-# `python3`. Fails if one of them is missing or if a case differs.
+# typed. In C and C++ it also checks the events of each case (events.c) and the inline functions of the header without the library (wrappers.c),
+# lets allocations fail (memory.c), prints between guard pages (guard.c), with limits (limit.c), in many threads (threads.c) and in colors (color.c).
+# Uses the machine's `cc`, `c++`, `cargo --offline` and `python3`. Fails if one of them is missing or if a case differs.
 set -eu
 cd "$(dirname "$0")/.."
 for tool in cc c++ cargo python3; do
@@ -19,7 +19,8 @@ flags='-O2 -Wall -Wextra -Wpedantic -Werror -Iinclude'
 counted=-Wl,--wrap=malloc,--wrap=realloc,--wrap=free
 library=$work/libwasmprinter.a
 
-# tested TEST WORD..: compiles bindings/c/TEST.c in C and in C++, with these flags and files, and runs both programs. Only `test` reads the cases.
+# tested TEST WORD..: compiles bindings/c/TEST.c in C and in C++, with these flags and files, and runs both programs. Only `test` and `events`
+# read the cases.
 tested() {
     test=$1
     shift
@@ -30,6 +31,7 @@ tested() {
 }
 
 tested test "$library"
+tested events "$library"
 tested wrappers
 tested memory "$counted" "$library"
 tested guard "$library"
@@ -79,6 +81,38 @@ for example in example_c example_cpp; do
     case_of 2 "$work/written" "$work/empty.wasm" "$work/empty.wasm"
 done
 echo 'c, c++: both examples print and report as typed'
+
+# colored: prints the standard input with escape sequences in place of the marks of its styles: names, literals, keywords, types, comments, none.
+escape=$(printf '\033')
+colored() {
+    sed "s/{N}/{R}${escape}[35m/g; s/{L}/{R}${escape}[31m/g; s/{K}/{R}${escape}[1m${escape}[38;5;11m/g; s/{T}/{R}${escape}[1m${escape}[38;5;10m/g
+        s/{C}/{R}${escape}[36m/g; s/{R}/${escape}[0m/g"
+}
+
+# a function with a name that is no identifier, which returns negative infinity, and a custom section: the module TYPED of events.c
+printf '\000asm\001\000\000\000\001\005\001\140\000\001\175\003\002\001\000\012\014\001\012\000\002\175' >"$work/typed.wasm"
+printf '\103\000\000\200\377\013\013\000\012\004name\001\003\001\000\000\000\003\001a\001' >>"$work/typed.wasm"
+colored >"$work/colored" <<'END'
+({K}module{R}
+  ({K}type {R}{N}(;0;){R} ({K}func{R} ({K}result{R} {T}f32{R})))
+  ({K}func {R}{N}$"#func0 " ({K}@name "{R}") (;0;){R} ({K}type {R}{N}0{R}) ({K}result{R} {T}f32{R})
+    block ({K}result {R}{T}f32{R}) {C};; label = @1{R}
+      f32.const -{L}inf {C}(;=-inf;){R}
+    end
+  )
+  ({K}@custom {R}{L}"a"{R} (after code) {L}"\01"{R})
+)
+END
+cc -std=c99 $flags bindings/c/color.c "$library" -o "$work/color_c"
+c++ -std=c++17 $flags -x c++ bindings/c/color.c -x none "$library" -o "$work/color_cpp"
+for color in color_c color_cpp; do
+    "$work/$color" <"$work/typed.wasm" >"$work/written"
+    cmp "$work/colored" "$work/written"
+    if "$work/$color" <"$work/component.wasm" >"$work/written" 2>"$work/reported"; then exit 1; fi
+    echo 'color: component' | cmp - "$work/reported"
+    if [ -s "$work/written" ]; then exit 1; fi
+done
+echo 'c, c++: the example in colors prints as typed'
 
 set -- --offline --quiet --workspace --manifest-path bindings/rust/Cargo.toml --target-dir "$work/rust"
 WASMPRINTER_LIB=$work cargo test "$@" >"$work/log" 2>&1 || { cat "$work/log"; exit 1; }

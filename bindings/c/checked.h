@@ -11,7 +11,7 @@
 enum { GUARD = 0xa5 };
 
 /* The flags with every known option. Each number up to it is a set of known options. */
-enum { ALL_OPTIONS = WASMPRINTER_OFFSETS | WASMPRINTER_SKELETON | WASMPRINTER_NAME_UNNAMED | WASMPRINTER_FOLD };
+enum { ALL_OPTIONS = WASMPRINTER_OFFSETS | WASMPRINTER_SKELETON | WASMPRINTER_NAME_UNNAMED | WASMPRINTER_FOLD | WASMPRINTER_EVENTS };
 
 /* The input of the printing functions. */
 typedef struct Input {
@@ -38,12 +38,21 @@ static inline Outcome print_text(const Input *input, void *out, size_t out_len) 
     return outcome;
 }
 
-/* Prints the text and the table of its lines. */
-static inline Outcome print_lines(const Input *input, void *out, size_t out_len, WasmprinterLine *lines, size_t lines_len) {
+/* Prints the text and the table of its lines, or of its events if the options say so. */
+static inline Outcome print_lines(const Input *input, void *out, size_t out_len, WasmprinterEvent *lines, size_t lines_len) {
     Outcome outcome = no_outcome();
     WasmprinterTable table = {lines, lines_len};
     outcome.status =
         wasmprinter_print_lines(input->wasm, &input->options, wasmprinter_buffer((char *)out, out_len), table, &outcome.stored);
+    return outcome;
+}
+
+/* Prints the text and the table of its events. */
+static inline Outcome print_events(const Input *input, void *out, size_t out_len, WasmprinterEvent *events, size_t events_len) {
+    Outcome outcome = no_outcome();
+    WasmprinterTable table = {events, events_len};
+    outcome.status =
+        wasmprinter_print_events(input->wasm, &input->options, wasmprinter_buffer((char *)out, out_len), table, &outcome.stored);
     return outcome;
 }
 

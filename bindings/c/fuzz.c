@@ -1,5 +1,5 @@
-/* A target for libFuzzer: prints any bytes with any options, whole, truncated, limited, with lines and to allocated memory, and checks that the
- * results are as the header says. The first byte of the input chooses the options and an unknown option, and the second one the indent.
+/* A target for libFuzzer: prints any bytes with any options, whole, truncated, limited, with lines or events and to allocated memory, and checks
+ * that the results are as the header says. The first byte of the input chooses the options and an unknown option, and the second one the indent.
  *
  * clang -fsanitize=fuzzer,address,undefined -Iinclude bindings/c/fuzz.c libwasmprinter.a */
 #include "checked.h"
@@ -84,17 +84,33 @@ static void check_alloc(const Input *input, const uint8_t *text, Outcome whole) 
     free(again.ptr);
 }
 
-/* Prints with a table of the lines, and checks its entries. */
+static bool is_line(WasmprinterEvent event) { return event.kind <= WASMPRINTER_LINE_AT_PLACE; }
+
+/* Checks an event. The first one is the start of a line, and later lines start after a line feed. */
+static void check_event(const Input *input, const uint8_t *text, const WasmprinterEvent *events, size_t index) {
+    const WasmprinterEvent event = events[index];
+    const bool has_place = event.kind == WASMPRINTER_LINE_AT_PLACE || event.kind == WASMPRINTER_CUSTOM_SECTION;
+    require(event.kind <= WASMPRINTER_CUSTOM_SECTION && event.place <= (has_place ? input->wasm.len : 0));
+    require(is_line(event) || (input->options.flags & WASMPRINTER_EVENTS) != 0);
+    if (index == 0) {
+        require(is_line(event) && event.start == 0);
+    } else {
+        require(event.start >= events[index - 1].start);
+        require(!is_line(event) || (event.start > events[index - 1].start && text[event.start - 1] == '\n'));
+    }
+}
+
+/* Prints with a table of the lines or of the events, and checks its entries. */
 static void check_lines(const Input *input, const uint8_t *text, Outcome whole) {
     const size_t length = whole.stored.length, count = whole.stored.count;
     uint8_t *again = (uint8_t *)guarded(length);
-    WasmprinterLine *lines = (WasmprinterLine *)guarded(count * sizeof *lines);
-    require(is_same(print_lines(input, again, length, lines, count), whole) && memcmp(again, text, length) == 0);
+    WasmprinterEvent *events = (WasmprinterEvent *)guarded(count * sizeof *events);
+    require(is_same(print_lines(input, again, length, events, count), whole) && memcmp(again, text, length) == 0);
     for (size_t i = 0; i < count; i++) {
-        require(i == 0 ? lines[i].start == 0 : lines[i].start > lines[i - 1].start && text[lines[i].start - 1] == '\n');
-        require(lines[i].has_place <= 1 && lines[i].place <= (lines[i].has_place ? input->wasm.len : 0));
+        require(events[i].start < length);
+        check_event(input, text, events, i);
     }
-    free(lines);
+    free(events);
     free(again);
 }
 

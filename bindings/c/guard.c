@@ -118,7 +118,7 @@ typedef struct Objects {
     size_t limit;
     uint8_t *out;
     size_t out_len;
-    WasmprinterLine *lines;
+    WasmprinterEvent *lines;
     size_t lines_len;
 } Objects;
 
@@ -136,7 +136,7 @@ static Outcome print_objects(Objects *placed, size_t out_len, size_t lines_len) 
     Outcome outcome = no_outcome();
     placed->out = place(pages.out, out_len, placed->end);
     placed->out_len = out_len;
-    placed->lines = (WasmprinterLine *)(void *)place(pages.lines, lines_len * sizeof *placed->lines, placed->end);
+    placed->lines = (WasmprinterEvent *)(void *)place(pages.lines, lines_len * sizeof *placed->lines, placed->end);
     placed->lines_len = lines_len;
     memset(placed->out, GUARD, out_len);
     memset(placed->lines, GUARD, lines_len * sizeof *placed->lines);
@@ -153,8 +153,8 @@ static bool is_table(const Objects *placed, const Prefix *prefix) {
     size_t start = 0;
     size_t fits = prefix->count < placed->lines_len ? prefix->count : placed->lines_len;
     for (size_t i = 0; i < fits; i++) {
-        const WasmprinterLine *line = &placed->lines[i];
-        if (line->start != start || line->place != prefix->places[i] || line->has_place != 1) {
+        const WasmprinterEvent *line = &placed->lines[i];
+        if (line->start != start || line->place != prefix->places[i] || line->kind != WASMPRINTER_LINE_AT_PLACE) {
             return false;
         }
         start += strcspn(prefix->text + start, "\n") + 1;
@@ -227,7 +227,7 @@ static void check_limits(size_t len, End end) {
     }
 }
 
-/* Prints the module with a set of options and every size of buffer. */
+/* Prints the module with a set of options, and every size of buffer and of table. */
 static void check_options(uint32_t flags, End end) {
     Objects placed = objects(MODULE, sizeof MODULE, "  ", 2, end);
     placed.flags = flags;
@@ -235,6 +235,9 @@ static void check_options(uint32_t flags, End end) {
     bool is_right = expect(whole.status == WASMPRINTER_OK, "guard", "status with options");
     for (size_t out_len = 0; is_right && out_len <= whole.stored.length; out_len++) {
         is_right = expect(is_same(print_objects(&placed, out_len, whole.stored.count), whole), "guard", "outcome with options");
+    }
+    for (size_t lines_len = 0; is_right && lines_len <= whole.stored.count; lines_len++) {
+        is_right = expect(is_same(print_objects(&placed, whole.stored.length, lines_len), whole), "guard", "outcome with a table");
     }
     for (placed.limit = 0; is_right && placed.limit < whole.stored.length; placed.limit++) {
         is_right = expect(is_same(print_objects(&placed, whole.stored.length, whole.stored.count), too_long()), "guard",

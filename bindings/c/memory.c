@@ -67,8 +67,13 @@ typedef Outcome (*Printer)(const Input *input, uint8_t *out);
 static Outcome print_to_buffer(const Input *input, uint8_t *out) { return print_text(input, out, ROOM); }
 
 static Outcome print_with_lines(const Input *input, uint8_t *out) {
-    static WasmprinterLine lines[ROOM];
+    static WasmprinterEvent lines[ROOM];
     return print_lines(input, out, ROOM, lines, ROOM);
+}
+
+static Outcome print_with_events(const Input *input, uint8_t *out) {
+    static WasmprinterEvent events[ROOM];
+    return print_events(input, out, ROOM, events, ROOM);
 }
 
 /* Prints to a block, and copies the text to the buffer. */
@@ -128,6 +133,7 @@ int main(void) {
     unsigned failures = check("a long indent and an empty module", print_to_buffer, &nothing, "(module)\n", 1);
     failures += check("a long indent and a type", print_to_buffer, &flat, text, 2);
     failures += check("the same with lines", print_with_lines, &flat, text, 2);
+    failures += check("the same with events", print_with_events, &flat, text, 2);
     failures += check("the same, folded", print_to_buffer, &folded, text, 2);
     failures += check("the same, allocated", print_to_block, &flat, text, 3);
     failures += check("the same, folded and allocated", print_to_block, &folded, text, 3);

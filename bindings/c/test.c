@@ -1,192 +1,14 @@
 /* test FILE: checks every case of bindings/cases.txt, and calls that no case describes. Prints each difference and the counts; the status
  * is 1 if there is a difference. For C99 and C++. */
-#include "checked.h"
-#include "expect.h"
+#include "cases.h"
 
-#include <stdlib.h>
-
-enum { MOST_LINES = 64, LINE_ROOM = 512, WASM_ROOM = 1 << 20, TEXT_ROOM = 4096, ERROR_ROOM = WASMPRINTER_ERROR_TEXT_LEN + 2 };
+enum { ERROR_ROOM = WASMPRINTER_ERROR_TEXT_LEN + 2 };
 
 /* The bits of the flags that choose no option. */
-enum { FIRST_UNKNOWN_BIT = 4, BITS = 32 };
-
-/* The flags of the words in the file of cases. */
-static const struct {
-    const char *word;
-    uint32_t flag;
-} OPTIONS[] = {
-    {"offsets", WASMPRINTER_OFFSETS},
-    {"skeleton", WASMPRINTER_SKELETON},
-    {"name_unnamed", WASMPRINTER_NAME_UNNAMED},
-    {"fold", WASMPRINTER_FOLD},
-};
-
-/* A case: the input and the expected results. */
-typedef struct Case {
-    char title[LINE_ROOM];
-    Input input;
-    uint8_t indent[LINE_ROOM];
-    bool has_places;
-    Outcome outcome;
-    char error[LINE_ROOM];
-    char text[TEXT_ROOM]; /* the text in the buffer after the call */
-    size_t text_len;
-    WasmprinterLine lines[MOST_LINES];
-} Case;
-
-/* The names of the errors in the file of cases. */
-static const struct {
-    const char *name;
-    WasmprinterStatus status;
-} ERRORS[] = {
-    {"Malformed", WASMPRINTER_MALFORMED},
-    {"Component", WASMPRINTER_COMPONENT},
-    {"TooManyLocals", WASMPRINTER_TOO_MANY_LOCALS},
-    {"TooManyFunctions", WASMPRINTER_TOO_MANY_FUNCTIONS},
-    {"EmptyTableInit", WASMPRINTER_EMPTY_TABLE_INIT},
-    {"FoldLegacy", WASMPRINTER_FOLD_LEGACY},
-    {"FoldHint", WASMPRINTER_FOLD_HINT},
-    {"DylinkSubsection", WASMPRINTER_DYLINK_SUBSECTION},
-    {"InvalidIndent", WASMPRINTER_INVALID_INDENT},
-};
-
-static uint8_t wasm[WASM_ROOM];
-static unsigned cases;
+enum { FIRST_UNKNOWN_BIT = 5, BITS = 32 };
 
 /* The block that wasmprinter_print_alloc printed to. Each case uses that of the case before. */
 static WasmprinterBuffer block;
-
-/* Stops the test if the file of cases itself is wrong. */
-static void expect_file(bool is_right, const char *line) {
-    if (!is_right) {
-        fprintf(stderr, LANGUAGE ": the file of cases can't be read at: %s\n", line);
-        exit(2);
-    }
-}
-
-/* Returns the rest of a line after its first word and a space, or null if the line starts with another word. */
-static const char *after(const char *word, const char *line) {
-    size_t len = strlen(word);
-    if (strncmp(line, word, len) != 0 || (line[len] != ' ' && line[len] != '\0')) {
-        return NULL;
-    }
-    return line + len + (line[len] == ' ');
-}
-
-/* Appends bytes in hexadecimal to a buffer, and returns its new length. */
-static size_t read_bytes(const char *words, uint8_t *bytes, size_t len, size_t room) {
-    for (;;) {
-        char *end;
-        unsigned long byte = strtoul(words, &end, 16);
-        if (end == words) {
-            expect_file(*words == '\0', words);
-            return len;
-        }
-        expect_file(len < room && byte <= UINT8_MAX, words);
-        bytes[len++] = (uint8_t)byte;
-        words = end;
-    }
-}
-
-/* Adds options to the flags. */
-static void read_options(const char *words, uint32_t *flags) {
-    while (*words != '\0') {
-        const char *rest = NULL;
-        for (size_t i = 0; i < sizeof OPTIONS / sizeof OPTIONS[0] && rest == NULL; i++) {
-            rest = after(OPTIONS[i].word, words);
-            *flags |= rest != NULL ? OPTIONS[i].flag : 0;
-        }
-        expect_file(rest != NULL, words);
-        words = rest;
-    }
-}
-
-/* Appends bytes to the text. */
-static void add_text(Case *test_case, const char *text, size_t len) {
-    expect_file(len <= TEXT_ROOM - test_case->text_len, text);
-    memcpy(test_case->text + test_case->text_len, text, len);
-    test_case->text_len += len;
-}
-
-/* Appends a line of the text, with its place. */
-static void read_text(Case *test_case, const char *line) {
-    const char *bar = strchr(line, '|');
-    expect_file(bar != NULL && test_case->outcome.stored.count < MOST_LINES, line);
-    WasmprinterLine *entry = &test_case->lines[test_case->outcome.stored.count++];
-    entry->start = test_case->text_len;
-    entry->place = bar == line ? 0 : strtoull(line, NULL, 16);
-    entry->has_place = bar != line;
-    add_text(test_case, bar + 1, strlen(bar + 1));
-    add_text(test_case, "\n", 1);
-    test_case->outcome.stored.length = test_case->text_len;
-}
-
-/* Reads an error with its detail and its description. */
-static void read_error(Case *test_case, const char *words) {
-    const char *rest = NULL;
-    for (size_t i = 0; i < sizeof ERRORS / sizeof ERRORS[0] && rest == NULL; i++) {
-        rest = after(ERRORS[i].name, words);
-        test_case->outcome.status = ERRORS[i].status;
-    }
-    expect_file(rest != NULL, words);
-    char *end;
-    test_case->outcome.stored.detail = strtoull(rest, &end, 10);
-    expect_file(end != rest && *end == ' ', words);
-    strcpy(test_case->error, end + 1);
-}
-
-/* Appends this number of zero bytes to the module. */
-static void add_zeros(Input *input, size_t zeros) {
-    expect_file(zeros <= sizeof wasm - input->wasm.len, "zeros");
-    memset(wasm + input->wasm.len, 0, zeros);
-    input->wasm.len += zeros;
-}
-
-/* Reads a line of a case. */
-static void read_line(Case *test_case, const char *line) {
-    Input *input = &test_case->input;
-    const char *words;
-    if ((words = after("set", line)) != NULL) {
-        read_options(words, &input->options.flags);
-    } else if ((words = after("indent", line)) != NULL) {
-        input->options.indent = wasmprinter_bytes(test_case->indent, read_bytes(words, test_case->indent, 0, sizeof test_case->indent));
-    } else if ((words = after("wasm", line)) != NULL) {
-        input->wasm.len = read_bytes(words, wasm, input->wasm.len, sizeof wasm);
-    } else if ((words = after("zeros", line)) != NULL) {
-        add_zeros(input, strtoul(words, NULL, 10));
-    } else if (after("places", line) != NULL) {
-        test_case->has_places = true;
-    } else if ((words = after("error", line)) != NULL) {
-        read_error(test_case, words);
-    } else if ((words = after("left", line)) != NULL) {
-        add_text(test_case, words, strlen(words));
-    } else {
-        read_text(test_case, line);
-    }
-}
-
-/* Starts a case with the default options. */
-static void start_case(Case *test_case, const char *title) {
-    memset(test_case, 0, sizeof *test_case);
-    strcpy(test_case->title, title);
-    test_case->input.wasm.ptr = wasm;
-}
-
-/* Compares the outcome of a call with that of the case. */
-static bool expect_outcome(const Case *test_case, Outcome outcome) {
-    const Outcome *typed = &test_case->outcome;
-    return expect(outcome.status == typed->status, test_case->title, "status") &&
-           expect(outcome.stored.detail == typed->stored.detail, test_case->title, "detail") &&
-           expect(outcome.stored.length == typed->stored.length, test_case->title, "length") &&
-           expect(outcome.stored.count == typed->stored.count, test_case->title, "count of lines");
-}
-
-/* Returns the input of a case with another limit. */
-static Input limited(const Case *test_case, size_t limit) {
-    Input input = test_case->input;
-    input.options.limit = limit;
-    return input;
-}
 
 /* Prints with a limit that the text does not exceed, to a buffer of each size from 0 to one byte more than the text. */
 static void check_text(const Case *test_case, size_t limit) {
@@ -201,11 +23,11 @@ static void check_text(const Case *test_case, size_t limit) {
 }
 
 /* Compares the first entries of the table. */
-static bool expect_lines(const Case *test_case, const WasmprinterLine *lines, size_t count) {
+static bool expect_lines(const Case *test_case, const WasmprinterEvent *lines, size_t count) {
     bool is_right = true;
     for (size_t i = 0; is_right && i < count; i++) {
-        const WasmprinterLine *typed = &test_case->lines[i];
-        bool is_place = lines[i].place == typed->place && lines[i].has_place == typed->has_place;
+        const WasmprinterEvent *typed = &test_case->lines[i];
+        bool is_place = lines[i].place == typed->place && lines[i].kind == typed->kind;
         is_right = expect(lines[i].start == typed->start, test_case->title, "start of a line") &&
                    expect(is_place || !test_case->has_places, test_case->title, "place");
     }
@@ -215,7 +37,7 @@ static bool expect_lines(const Case *test_case, const WasmprinterLine *lines, si
 /* Prints with a table of each size from 0 to one line more than the text has. */
 static void check_lines(const Case *test_case) {
     static uint8_t out[TEXT_ROOM];
-    WasmprinterLine lines[MOST_LINES + 1];
+    WasmprinterEvent lines[MOST_LINES + 1];
     const char *title = test_case->title;
     size_t count = test_case->outcome.stored.count;
     bool is_right = true;
@@ -236,7 +58,7 @@ static void check_lines(const Case *test_case) {
  * the limit. */
 static void check_limits(const Case *test_case) {
     static uint8_t out[TEXT_ROOM];
-    WasmprinterLine lines[MOST_LINES];
+    WasmprinterEvent lines[MOST_LINES];
     const char *title = test_case->title;
     const size_t length = test_case->text_len;
     bool is_right = true;
@@ -269,7 +91,7 @@ static void check_alloc(const Case *test_case, size_t limit) {
 /* Prints with flags that have unknown bits. Nothing may be written. */
 static bool check_unknown_options(const Case *test_case, uint32_t flags, size_t limit) {
     uint8_t out[LINE_ROOM];
-    WasmprinterLine lines[MOST_LINES];
+    WasmprinterEvent lines[MOST_LINES];
     Input input = limited(test_case, limit);
     input.options.flags = flags;
     memset(out, GUARD, sizeof out);
@@ -345,7 +167,6 @@ static void check_printing(const Case *test_case) {
 
 static void check(Case *test_case) {
     WasmprinterBytes *indent = &test_case->input.options.indent;
-    cases++;
     check_printing(test_case);
     if (indent->ptr == NULL) {
         /* the default in full */
@@ -355,31 +176,6 @@ static void check(Case *test_case) {
     if (test_case->outcome.status != WASMPRINTER_OK) {
         check_error_text(test_case->title, test_case->outcome.status, test_case->outcome.stored.detail, test_case->error);
     }
-}
-
-/* Reads and checks all cases of a file. */
-static void check_file(FILE *file) {
-    static Case test_case;
-    char line[LINE_ROOM];
-    bool is_open = false;
-    while (fgets(line, sizeof line, file) != NULL) {
-        char *end = strchr(line, '\n');
-        expect_file(end != NULL, line);
-        *end = '\0';
-        const char *title = after("case", line);
-        if (title != NULL) {
-            if (is_open) {
-                check(&test_case);
-            }
-            start_case(&test_case, title);
-            is_open = true;
-        } else if (line[0] != '\0' && line[0] != '#') {
-            expect_file(is_open, line);
-            read_line(&test_case, line);
-        }
-    }
-    expect_file(is_open, "its end");
-    check(&test_case);
 }
 
 /* Returns a small module and its length. The last byte is the zero byte at the end of the string. */
@@ -452,8 +248,8 @@ static void check_other_statuses(void) {
     check_error_text(title, WASMPRINTER_UNREADABLE, 0, "the file can't be read");
     check_error_text(title, WASMPRINTER_TOO_LONG, 0, "the text is too long");
     check_error_text(title, WASMPRINTER_MEMORY, 0, "out of memory");
-    check_error_text(title, WASMPRINTER_UNKNOWN_OPTION, 0x10, "unknown options 0x10");
-    check_error_text(title, WASMPRINTER_UNKNOWN_OPTION, 0xfffffff0, "unknown options 0xfffffff0");
+    check_error_text(title, WASMPRINTER_UNKNOWN_OPTION, 0x20, "unknown options 0x20");
+    check_error_text(title, WASMPRINTER_UNKNOWN_OPTION, 0xffffffe0, "unknown options 0xffffffe0");
     check_error_text(title, WASMPRINTER_UNKNOWN_OPTION + 1, 0, "unknown status");
     check_error_text(title, UINT32_MAX, 0, "unknown status");
     check_error_text(title, WASMPRINTER_MALFORMED, UINT64_MAX, "malformed module at byte 0xffffffffffffffff");
@@ -485,10 +281,7 @@ static void check_status_names(void) {
 }
 
 int main(int argc, char **argv) {
-    FILE *file = argc == 2 ? fopen(argv[1], "r") : NULL;
-    expect_file(file != NULL, "its start");
-    check_file(file);
-    fclose(file);
+    const unsigned cases = check_file(argc == 2 ? argv[1] : NULL, check);
     check_null("null pointers", 0);
     check_null("null pointers with lengths", TEXT_ROOM);
     check_null_alloc();

@@ -7,11 +7,11 @@
 
 /* The arguments of a call. Their lengths differ from each other. */
 enum { WASM_LEN = 4096, INDENT_LEN = 1024, OUT_LEN = 2048, LINES_LEN = 512, LIMIT = 8192 };
-static const uint32_t FLAGS = 0xfffffff5; /* known and unknown options */
+static const uint32_t FLAGS = 0xffffffe5; /* known and unknown options, without WASMPRINTER_EVENTS */
 static uint8_t wasm[WASM_LEN];
 static uint8_t indent[INDENT_LEN];
 static char out[OUT_LEN];
-static WasmprinterLine lines[LINES_LEN];
+static WasmprinterEvent lines[LINES_LEN];
 
 /* The results of a call, and the bytes of a text. */
 enum { LENGTH = 3, COUNT = 5, DETAIL = 7, TEXT = 'x' };
@@ -52,7 +52,7 @@ static Part part_of(const void *start, size_t len) {
 static void write_text(uint8_t *text, size_t room, size_t length) { memset(text, TEXT, length < room ? length : room); }
 
 WasmprinterStatus wasmprinter_raw_print(const uint8_t *bytes, size_t bytes_len, uint32_t flags, const uint8_t *level, size_t level_len,
-                                        size_t limit, uint8_t *text, size_t text_len, WasmprinterLine *table, size_t table_len,
+                                        size_t limit, uint8_t *text, size_t text_len, WasmprinterEvent *table, size_t table_len,
                                         WasmprinterResult *result) {
     const unsigned call = received.calls++ % MOST_CALLS;
     received.parts[WASM] = part_of(bytes, bytes_len);
@@ -127,7 +127,13 @@ static void expect_arguments(WasmprinterBytes bytes, const WasmprinterOptions *o
     expect_part(LINES, table.ptr, table.len, function, "table");
 }
 
-/* Calls the two functions that print to a buffer. */
+/* Checks that the last call received the option for events, and takes it from the flags. */
+static void expect_events(const char *function) {
+    expect((received.flags & WASMPRINTER_EVENTS) != 0, function, "option for events");
+    received.flags &= ~(uint32_t)WASMPRINTER_EVENTS;
+}
+
+/* Calls the three functions that print to a buffer. */
 static void check_print(unsigned nulls) {
     const size_t some = nulls & NO_LENGTHS ? 0 : 1;
     const WasmprinterBytes bytes = {nulls & NO_WASM ? NULL : wasm, WASM_LEN * some};
@@ -148,6 +154,27 @@ static void check_print(unsigned nulls) {
     own_result = no_outcome().stored;
     expect_outcome(wasmprinter_print(bytes, options, text, result), result, "print");
     expect_arguments(bytes, options, text, no_lines, "print");
+
+    answer(outcome, outcome);
+    own_result = no_outcome().stored;
+    expect_outcome(wasmprinter_print_events(bytes, options, text, table, result), result, "print_events");
+    expect_events("print_events");
+    expect_arguments(bytes, options, text, table, "print_events");
+}
+
+/* Calls the same functions with options that choose all events. */
+static void check_events(void) {
+    const WasmprinterBytes bytes = {wasm, WASM_LEN};
+    const WasmprinterOptions options = {FLAGS | WASMPRINTER_EVENTS, {indent, INDENT_LEN}, LIMIT};
+    const WasmprinterBuffer text = {out, OUT_LEN};
+    const WasmprinterTable table = {lines, LINES_LEN}, no_lines = {NULL, 0};
+    answer(no_outcome(), no_outcome());
+    wasmprinter_print_lines(bytes, &options, text, table, NULL);
+    expect_arguments(bytes, &options, text, table, "print_lines with the option for events");
+    wasmprinter_print(bytes, &options, text, NULL);
+    expect_arguments(bytes, &options, text, no_lines, "print with the option for events");
+    wasmprinter_print_events(bytes, &options, text, table, NULL);
+    expect_arguments(bytes, &options, text, table, "print_events with the option for events");
 }
 
 /* ---- Descriptions */
@@ -354,6 +381,7 @@ int main(void) {
     for (unsigned nulls = 0; nulls < COMBINATIONS; nulls++) {
         check_print(nulls);
     }
+    check_events();
     check_error_texts();
     unsigned calls = check_scenarios();
     check_rooms();

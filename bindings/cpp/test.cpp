@@ -14,6 +14,7 @@
 #include <sstream>
 #include <string>
 #include <string_view>
+#include <tuple>
 #include <utility>
 #include <vector>
 #if __cplusplus >= 202002L
@@ -25,6 +26,7 @@ static_assert(std::ranges::input_range<wasmprinter::Lines>);
 
 using namespace std::literals;
 using wasmprinter::Error;
+using wasmprinter::Events;
 using wasmprinter::Lines;
 using wasmprinter::Options;
 
@@ -237,6 +239,27 @@ static void expect_lines(const Case &test_case, const Lines &lines) {
     expect(index == lines.size() && std::next(lines.begin(), lines.size()) == lines.end(), test_case.title, "end of the lines");
 }
 
+// Checks the events of a case: its lines are among them, and no event starts before the one before it.
+static void expect_events(const Case &test_case, const Events &events) {
+    std::size_t start = 0, lines = 0, line_start = 0;
+    expect(events.text() == test_case.text && !events.empty(), test_case.title, "text of the events");
+    expect(&*events.begin() == &events[0] && events.end() == events.begin() + events.size(), test_case.title, "range of events");
+    for (const WasmprinterEvent &event : events) {
+        expect(event.start >= start && event.start < test_case.text.size(), test_case.title, "start of an event");
+        expect(event.kind <= WASMPRINTER_CUSTOM_SECTION, test_case.title, "kind of an event");
+        start = event.start;
+        if (event.kind <= WASMPRINTER_LINE_AT_PLACE && lines < test_case.lines.size()) {
+            const auto &[place, text] = test_case.lines[lines];
+            const bool is_place = event.kind == (place ? WASMPRINTER_LINE_AT_PLACE : WASMPRINTER_LINE) && event.place == place.value_or(0);
+            expect(start == line_start, test_case.title, "start of a line among events");
+            expect(is_place || !test_case.has_places, test_case.title, "place of a line among events");
+            line_start += text.size();
+            lines++;
+        }
+    }
+    expect(lines == test_case.lines.size() && line_start == test_case.text.size(), test_case.title, "number of lines among events");
+}
+
 // Prints a case with options that have its indent and this limit.
 static void check_with(const Case &test_case, std::size_t limit) {
     Options options = test_case.options;
@@ -245,10 +268,13 @@ static void check_with(const Case &test_case, std::size_t limit) {
     if (test_case.status != WASMPRINTER_OK) {
         expect_error(test_case, [&] { return wasmprinter::print(test_case.wasm, options); });
         expect_error(test_case, [&] { return wasmprinter::print_lines(test_case.wasm, options); });
+        expect_error(test_case, [&] { return wasmprinter::print_events(test_case.wasm, options); });
+        expect_error(test_case, [&] { return wasmprinter::print_ansi(test_case.wasm, options); });
         return;
     }
     expect(wasmprinter::print(test_case.wasm, options) == test_case.text, test_case.title, "text");
     expect_lines(test_case, wasmprinter::print_lines(test_case.wasm, options));
+    expect_events(test_case, wasmprinter::print_events(test_case.wasm, options));
 }
 
 // Prints the module of a case with a limit that is less than the length of its text.
@@ -290,6 +316,76 @@ static Case printed(std::string_view title, std::string_view wasm, const std::ve
 
 static Case one_type() { return printed("one type", ONE_TYPE, {"(module", "  (type (;0;) (func))", ")"}); }
 
+// ---- Events
+
+// The text of ONE_TYPE in colors.
+static constexpr std::string_view ONE_TYPE_IN_COLORS = "(\x1b[0m\x1b[1m\x1b[38;5;11mmodule\x1b[0m\n"
+                                                       "  (\x1b[0m\x1b[1m\x1b[38;5;11mtype \x1b[0m\x1b[0m\x1b[35m(;0;)\x1b[0m "
+                                                       "(\x1b[0m\x1b[1m\x1b[38;5;11mfunc\x1b[0m))\n"
+                                                       ")\n";
+
+// A function that returns its i32 parameter, exported as `f`.
+static constexpr std::string_view IDENTITY = "\0asm\1\0\0\0\1\6\1\x60\1\x7f\1\x7f\3\2\1\0\7\5\1\1f\0\0\x0a\6\1\4\0\x20\0\x0b"sv;
+
+// Its text in colors, with its places, which are comments.
+static constexpr std::string_view IDENTITY_IN_COLORS =
+    "(\x1b[0m\x1b[1m\x1b[38;5;11mmodule\x1b[0m\n"
+    "\x1b[0m\x1b[36m(;@b     ;)\x1b[0m  (\x1b[0m\x1b[1m\x1b[38;5;11mtype \x1b[0m\x1b[0m\x1b[35m(;0;)\x1b[0m "
+    "(\x1b[0m\x1b[1m\x1b[38;5;11mfunc\x1b[0m (\x1b[0m\x1b[1m\x1b[38;5;11mparam\x1b[0m \x1b[0m\x1b[1m\x1b[38;5;10mi32\x1b[0m) "
+    "(\x1b[0m\x1b[1m\x1b[38;5;11mresult\x1b[0m \x1b[0m\x1b[1m\x1b[38;5;10mi32\x1b[0m)))\n"
+    "\x1b[0m\x1b[36m(;@17    ;)\x1b[0m  (\x1b[0m\x1b[1m\x1b[38;5;11mexport \x1b[0m\x1b[0m\x1b[31m\"f\"\x1b[0m "
+    "(\x1b[0m\x1b[1m\x1b[38;5;11mfunc \x1b[0m\x1b[0m\x1b[35m0\x1b[0m))\n"
+    "\x1b[0m\x1b[36m(;@1f    ;)\x1b[0m  (\x1b[0m\x1b[1m\x1b[38;5;11mfunc \x1b[0m\x1b[0m\x1b[35m(;0;)\x1b[0m "
+    "(\x1b[0m\x1b[1m\x1b[38;5;11mtype \x1b[0m\x1b[0m\x1b[35m0\x1b[0m) (\x1b[0m\x1b[1m\x1b[38;5;11mparam\x1b[0m "
+    "\x1b[0m\x1b[1m\x1b[38;5;10mi32\x1b[0m) (\x1b[0m\x1b[1m\x1b[38;5;11mresult\x1b[0m \x1b[0m\x1b[1m\x1b[38;5;10mi32\x1b[0m)\n"
+    "\x1b[0m\x1b[36m(;@20    ;)\x1b[0m    local.get \x1b[0m\x1b[35m0\x1b[0m\n"
+    "\x1b[0m\x1b[36m(;@22    ;)\x1b[0m  )\n"
+    "\x1b[0m\x1b[36m(;@23    ;)\x1b[0m)\n";
+
+// Compares all events of ONE_TYPE, and texts in colors.
+static void check_events() {
+    const std::vector<std::tuple<std::size_t, std::uint64_t, std::uint32_t>> typed = {
+        {0, 0, WASMPRINTER_LINE_AT_PLACE}, {1, 0, WASMPRINTER_KEYWORD}, {7, 0, WASMPRINTER_RESET},
+        {8, 0xb, WASMPRINTER_LINE_AT_PLACE}, {11, 0, WASMPRINTER_KEYWORD}, {16, 0, WASMPRINTER_RESET},
+        {16, 0, WASMPRINTER_NAME}, {21, 0, WASMPRINTER_RESET}, {23, 0, WASMPRINTER_KEYWORD}, {27, 0, WASMPRINTER_RESET},
+        {30, 0xe, WASMPRINTER_LINE_AT_PLACE},
+    };
+    std::vector<std::tuple<std::size_t, std::uint64_t, std::uint32_t>> found;
+    for (const WasmprinterEvent &event : wasmprinter::print_events(ONE_TYPE)) {
+        found.emplace_back(event.start, event.place, event.kind);
+    }
+    expect(found == typed, "typed events", "list");
+    Options options;
+    options.offsets = true;
+    expect(wasmprinter::print_ansi(ONE_TYPE) == ONE_TYPE_IN_COLORS, "colors", "text");
+    expect(wasmprinter::print_ansi(IDENTITY, options) == IDENTITY_IN_COLORS, "colors and places", "text");
+}
+
+// Prints a custom section. Its event has the place of its data.
+static void check_custom_section() {
+    unsigned found = 0;
+    for (const WasmprinterEvent &event : wasmprinter::print_events("\0asm\1\0\0\0\0\3\1a\1"sv)) {
+        if (event.kind == WASMPRINTER_CUSTOM_SECTION) {
+            expect(event.start == 7 && event.place == 12, "a custom section", "event");
+            found++;
+        }
+    }
+    expect(found == 1, "a custom section", "number of events");
+}
+
+// Prints more events than expected: each of 200 types has seven events and three bytes.
+static void check_many_events() {
+    std::string wasm = "\0asm\1\0\0\0\1\xda\4\xc8\1"s;
+    std::vector<std::string> lines = {"(module"};
+    for (int i = 0; i < 200; i++) {
+        wasm += "\x60\0\0"s;
+        lines.push_back("  (type (;" + std::to_string(i) + ";) (func))");
+    }
+    lines.emplace_back(")");
+    check(printed("many events", wasm, lines));
+    expect(wasmprinter::print_events(wasm).size() == 4 + 200 * 7, "many events", "number");
+}
+
 // Prints other types of bytes.
 static void check_other_bytes() {
     const auto *bytes = reinterpret_cast<const std::uint8_t *>(ONE_TYPE.data());
@@ -298,11 +394,16 @@ static void check_other_bytes() {
     const std::vector<std::uint8_t> numbers(bytes, bytes + ONE_TYPE.size());
     expect(wasmprinter::print(numbers) == ONE_TYPE_TEXT, "a vector of numbers", "text");
     expect_lines(one_type(), wasmprinter::print_lines(numbers));
+    expect_events(one_type(), wasmprinter::print_events(bytes, ONE_TYPE.size()));
+    expect_events(one_type(), wasmprinter::print_events(numbers));
+    expect(wasmprinter::print_ansi(bytes, ONE_TYPE.size()) == ONE_TYPE_IN_COLORS, "a pointer and a length", "text in colors");
+    expect(wasmprinter::print_ansi(numbers) == ONE_TYPE_IN_COLORS, "a vector of numbers", "text in colors");
     expect(wasmprinter::print(std::string(ONE_TYPE)) == ONE_TYPE_TEXT, "a string", "text");
 #ifdef __cpp_lib_span
     const auto span = std::as_bytes(std::span(ONE_TYPE));
     expect(wasmprinter::print(span) == ONE_TYPE_TEXT, "a span", "text");
     expect_lines(one_type(), wasmprinter::print_lines(span));
+    expect_events(one_type(), wasmprinter::print_events(span));
 #endif
 }
 
@@ -366,7 +467,7 @@ static void check_limits() {
     }
 }
 
-// Copies and moves lines.
+// Copies and moves lines and events.
 static void check_copies() {
     Lines lines = wasmprinter::print_lines(ONE_TYPE);
     const Lines copy = lines;
@@ -375,6 +476,13 @@ static void check_copies() {
     expect_lines(one_type(), moved);
     lines = copy;
     expect_lines(one_type(), lines);
+    Events events = wasmprinter::print_events(ONE_TYPE);
+    const Events copied_events = events;
+    const Events moved_events = std::move(events);
+    expect_events(one_type(), copied_events);
+    expect_events(one_type(), moved_events);
+    events = copied_events;
+    expect_events(one_type(), events);
 }
 
 // Makes a call with failing allocations. Returns whether it threw std::bad_alloc. If it returned, it must return true.
@@ -414,6 +522,8 @@ static void check_failing_allocations() {
     options.indent = indent;
     check_memory("failing allocations", [&] { return wasmprinter::print(ONE_TYPE, options) == text; });
     check_memory("failing allocations of lines", [&] { return wasmprinter::print_lines(ONE_TYPE, options).text() == text; });
+    check_memory("failing allocations of events", [&] { return wasmprinter::print_events(ONE_TYPE, options).text() == text; });
+    check_memory("failing allocations of colors", [&] { return wasmprinter::print_ansi(ONE_TYPE, options).size() > text.size(); });
     options.limit = text.size();
     check_memory("failing allocations with a limit", [&] { return wasmprinter::print(ONE_TYPE, options) == text; });
     options.fold = true;
@@ -431,6 +541,9 @@ int main(int argc, char **argv) {
     check_indents();
     check_long_text();
     check_many_lines();
+    check_events();
+    check_custom_section();
+    check_many_events();
     check_limits();
     check_copies();
     check_failing_allocations();

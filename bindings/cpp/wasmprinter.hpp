@@ -81,6 +81,14 @@ struct Free {
     void operator()(char *block) const noexcept { std::free(block); }
 };
 
+// The text of a module, and the table of its lines or of its events.
+struct Printed {
+    Array<char> text;
+    Array<WasmprinterEvent> table;
+
+    std::string_view view() const noexcept { return {text.data(), text.size()}; }
+};
+
 // Returns bytes of another type as a view.
 inline std::string_view view_of(const void *bytes, std::size_t size) noexcept { return {static_cast<const char *>(bytes), size}; }
 
@@ -103,6 +111,42 @@ inline void check(WasmprinterStatus status, const WasmprinterResult &result) {
     }
     if (status != WASMPRINTER_OK) {
         throw Error(status, result.detail);
+    }
+}
+
+// Prints a module with the table that the options choose. `count` is the expected length of the table.
+inline Printed print_whole(std::string_view wasm, const WasmprinterOptions &chosen, std::size_t count) {
+    // Most texts have less than 12 bytes for each byte of the module. If the text or the table is longer than expected, the module is printed
+    // again. Pages of an array that are not written to take no memory.
+    std::size_t length = wasm.size() * 12 + 4096;
+    if (chosen.limit != 0 && chosen.limit < length) {
+        length = chosen.limit;
+    }
+    for (;;) {
+        Array<char> text(length);
+        Array<WasmprinterEvent> table(count);
+        WasmprinterResult result = {0, 0, 0};
+        check(wasmprinter_print_lines(bytes_of(wasm), &chosen, {text.data(), length}, {table.data(), count}, &result), result);
+        if (result.length <= length && result.count <= count) {
+            text.resize(result.length);
+            table.resize(result.count);
+            return {std::move(text), std::move(table)};
+        }
+        length = result.length;
+        count = result.count;
+    }
+}
+
+// Returns the ANSI escape sequences that `printwasm --color` writes for an event of this kind.
+inline std::string_view sequence_of(std::uint32_t kind) noexcept {
+    switch (kind) {
+    case WASMPRINTER_NAME: return "\x1b[0m\x1b[35m";
+    case WASMPRINTER_LITERAL: return "\x1b[0m\x1b[31m";
+    case WASMPRINTER_KEYWORD: return "\x1b[0m\x1b[1m\x1b[38;5;11m";
+    case WASMPRINTER_TYPE: return "\x1b[0m\x1b[1m\x1b[38;5;10m";
+    case WASMPRINTER_COMMENT: return "\x1b[0m\x1b[36m";
+    case WASMPRINTER_RESET: return "\x1b[0m";
+    default: return {};
     }
 }
 
@@ -158,17 +202,18 @@ class Lines {
     using value_type = Line;
 
     // Returns the whole text.
-    std::string_view text() const noexcept { return {text_.data(), text_.size()}; }
+    std::string_view text() const noexcept { return printed_.view(); }
 
     // Returns the number of lines.
-    std::size_t size() const noexcept { return table_.size(); }
-    bool empty() const noexcept { return table_.empty(); }
+    std::size_t size() const noexcept { return printed_.table.size(); }
+    bool empty() const noexcept { return printed_.table.empty(); }
 
     // Returns a line. The index must be less than size().
     Line operator[](std::size_t index) const noexcept {
-        const WasmprinterLine &line = table_[index];
-        const std::size_t end = index + 1 < table_.size() ? table_[index + 1].start : text_.size();
-        return {line.has_place != 0 ? std::optional(line.place) : std::nullopt, {text_.data() + line.start, end - line.start}};
+        const detail::Array<WasmprinterEvent> &table = printed_.table;
+        const WasmprinterEvent &line = table[index];
+        const std::size_t end = index + 1 < table.size() ? table[index + 1].start : text().size();
+        return {line.kind == WASMPRINTER_LINE_AT_PLACE ? std::optional(line.place) : std::nullopt, text().substr(line.start, end - line.start)};
     }
 
     iterator begin() const noexcept { return {this, 0}; }
@@ -176,35 +221,64 @@ class Lines {
 
   private:
     friend Lines print_lines(std::string_view wasm, const Options &options);
-    Lines(detail::Array<char> text, detail::Array<WasmprinterLine> table) noexcept : text_(std::move(text)), table_(std::move(table)) {}
+    explicit Lines(detail::Printed printed) noexcept : printed_(std::move(printed)) {}
 
-    detail::Array<char> text_;
-    detail::Array<WasmprinterLine> table_;
+    detail::Printed printed_;
 };
 
 // Returns the lines of the text of a module.
 [[nodiscard]] inline Lines print_lines(std::string_view wasm, const Options &options = {}) {
-    const WasmprinterOptions chosen = detail::options_of(options);
-    // Most texts have less than 12 bytes for each byte of the module, and a line for every two. A longer text is printed again. Pages of an
-    // array that are not written to take no memory.
-    std::size_t length = wasm.size() * 12 + 4096, count = wasm.size() / 2 + 64;
-    if (options.limit != 0 && options.limit < length) {
-        length = options.limit;
+    // Most texts have a line for every two bytes of the module, or fewer.
+    return Lines(detail::print_whole(wasm, detail::options_of(options), wasm.size() / 2 + 64));
+}
+
+// The events of a text, with the text. The views that it returns are valid until it is destroyed, moved or assigned to.
+class Events {
+  public:
+    using value_type = WasmprinterEvent;
+    using const_iterator = const WasmprinterEvent *;
+    using iterator = const_iterator;
+
+    // Returns the whole text. The starts of events are offsets in it.
+    std::string_view text() const noexcept { return printed_.view(); }
+
+    // Returns the number of events.
+    std::size_t size() const noexcept { return printed_.table.size(); }
+    bool empty() const noexcept { return printed_.table.empty(); }
+
+    // Returns an event, as wasmprinter.h describes it. The index must be less than size().
+    const WasmprinterEvent &operator[](std::size_t index) const noexcept { return printed_.table[index]; }
+
+    const_iterator begin() const noexcept { return printed_.table.data(); }
+    const_iterator end() const noexcept { return printed_.table.data() + size(); }
+
+  private:
+    friend Events print_events(std::string_view wasm, const Options &options);
+    explicit Events(detail::Printed printed) noexcept : printed_(std::move(printed)) {}
+
+    detail::Printed printed_;
+};
+
+// Returns the text of a module with all its events: the starts of lines and of styles, and the custom sections.
+[[nodiscard]] inline Events print_events(std::string_view wasm, const Options &options = {}) {
+    WasmprinterOptions chosen = detail::options_of(options);
+    chosen.flags |= WASMPRINTER_EVENTS;
+    // A place at the start of a line has two events.
+    return Events(detail::print_whole(wasm, chosen, wasm.size() * (options.offsets ? 4 : 2) + 64));
+}
+
+// Returns the text of a module with ANSI escape sequences for colors. Folded operators have no colors.
+[[nodiscard]] inline std::string print_ansi(std::string_view wasm, const Options &options = {}) {
+    const Events events = print_events(wasm, options);
+    std::string colored;
+    std::size_t copied = 0;
+    for (const WasmprinterEvent &event : events) {
+        colored += events.text().substr(copied, event.start - copied);
+        colored += detail::sequence_of(event.kind);
+        copied = event.start;
     }
-    for (;;) {
-        detail::Array<char> text(length);
-        detail::Array<WasmprinterLine> table(count);
-        WasmprinterResult result = {0, 0, 0};
-        detail::check(wasmprinter_print_lines(detail::bytes_of(wasm), &chosen, {text.data(), length}, {table.data(), count}, &result),
-                      result);
-        if (result.length <= length && result.count <= count) {
-            text.resize(result.length);
-            table.resize(result.count);
-            return {std::move(text), std::move(table)};
-        }
-        length = result.length;
-        count = result.count;
-    }
+    colored += events.text().substr(copied);
+    return colored;
 }
 
 // The same functions for bytes in a container, such as a std::vector<std::uint8_t> or a std::span<const std::byte>, and for a pointer.
@@ -219,12 +293,30 @@ template <typename Bytes, typename = std::enable_if_t<sizeof(*std::declval<const
     return print_lines(detail::view_of(wasm.data(), wasm.size()), options);
 }
 
+template <typename Bytes, typename = std::enable_if_t<sizeof(*std::declval<const Bytes &>().data()) == 1>>
+[[nodiscard]] Events print_events(const Bytes &wasm, const Options &options = {}) {
+    return print_events(detail::view_of(wasm.data(), wasm.size()), options);
+}
+
+template <typename Bytes, typename = std::enable_if_t<sizeof(*std::declval<const Bytes &>().data()) == 1>>
+[[nodiscard]] std::string print_ansi(const Bytes &wasm, const Options &options = {}) {
+    return print_ansi(detail::view_of(wasm.data(), wasm.size()), options);
+}
+
 [[nodiscard]] inline std::string print(const std::uint8_t *wasm, std::size_t size, const Options &options = {}) {
     return print(detail::view_of(wasm, size), options);
 }
 
 [[nodiscard]] inline Lines print_lines(const std::uint8_t *wasm, std::size_t size, const Options &options = {}) {
     return print_lines(detail::view_of(wasm, size), options);
+}
+
+[[nodiscard]] inline Events print_events(const std::uint8_t *wasm, std::size_t size, const Options &options = {}) {
+    return print_events(detail::view_of(wasm, size), options);
+}
+
+[[nodiscard]] inline std::string print_ansi(const std::uint8_t *wasm, std::size_t size, const Options &options = {}) {
+    return print_ansi(detail::view_of(wasm, size), options);
 }
 
 // Returns the release of the library, such as `0.263.0-r1`.

@@ -5,6 +5,7 @@ import doctest
 import os
 import pathlib
 import pickle
+import re
 import subprocess
 import sys
 import tempfile
@@ -13,6 +14,7 @@ import unittest
 import unittest.mock
 
 import wasmprinter
+from wasmprinter import Kind
 
 CASES = pathlib.Path(__file__).resolve().parent.parent / "cases.txt"
 EMPTY = b"\0asm\1\0\0\0"
@@ -29,6 +31,39 @@ LINES_WITH_NOPS = [
     (4025, "  )\n"),
     (4026, ")\n"),
 ]
+
+# the functions that print a module
+FUNCTIONS = wasmprinter.print_bytes, wasmprinter.print_lines, wasmprinter.print_events, wasmprinter.print_ansi
+
+# an escape sequence for a color
+SEQUENCE = re.compile("\x1b\\[[0-9;]*m")
+
+# the events of ONE_TYPE
+EVENTS = [
+    (Kind.LINE_AT_PLACE, 0, "("),
+    (Kind.KEYWORD, None, "module"),
+    (Kind.RESET, None, "\n"),
+    (Kind.LINE_AT_PLACE, 11, "  ("),
+    (Kind.KEYWORD, None, "type "),
+    (Kind.RESET, None, ""),
+    (Kind.NAME, None, "(;0;)"),
+    (Kind.RESET, None, " ("),
+    (Kind.KEYWORD, None, "func"),
+    (Kind.RESET, None, "))\n"),
+    (Kind.LINE_AT_PLACE, 14, ")\n"),
+]
+
+# a function that returns its i32 parameter, exported as `f`, and its text in colors
+IDENTITY = EMPTY + b"\1\6\1\x60\1\x7f\1\x7f\3\2\1\0\7\5\1\1f\0\0\x0a\6\1\4\0\x20\0\x0b"
+K, T, N, L, R = "\x1b[0m\x1b[1m\x1b[38;5;11m", "\x1b[0m\x1b[1m\x1b[38;5;10m", "\x1b[0m\x1b[35m", "\x1b[0m\x1b[31m", "\x1b[0m"
+IDENTITY_IN_COLORS = f"""({K}module{R}
+  ({K}type {R}{N}(;0;){R} ({K}func{R} ({K}param{R} {T}i32{R}) ({K}result{R} {T}i32{R})))
+  ({K}export {R}{L}"f"{R} ({K}func {R}{N}0{R}))
+  ({K}func {R}{N}(;0;){R} ({K}type {R}{N}0{R}) ({K}param{R} {T}i32{R}) ({K}result{R} {T}i32{R})
+    local.get {N}0{R}
+  )
+)
+"""
 
 # the statuses of the errors, and the names of their details
 ERRORS = {
@@ -107,9 +142,10 @@ class Cases(unittest.TestCase):
             self.assertEqual([line.text for line in lines], [text for _, text in case.lines])
             if case.has_places:
                 self.assertEqual([line.place for line in lines], [place for place, _ in case.lines])
+            self.check_events(case, lines)
         else:
             name, detail, text = case.error
-            for function in (wasmprinter.print_bytes, wasmprinter.print_lines):
+            for function in FUNCTIONS:
                 with self.assertRaises(wasmprinter.Error) as raised:
                     function(case.wasm, **case.options)
                 self.assertIs(type(raised.exception), getattr(wasmprinter, name))
@@ -119,6 +155,26 @@ class Cases(unittest.TestCase):
                     # the error is found before printing
                     with self.assertRaises(getattr(wasmprinter, name)):
                         function(case.wasm, limit=1, **case.options)
+
+    def check_events(self, case, lines):
+        """Compares the lines among the events, and checks that styles start and end in turn."""
+        found, is_open = [], False
+        for event in wasmprinter.print_events(case.wasm, **case.options):
+            self.assertIsInstance(event.kind, wasmprinter.Kind)
+            if event.kind in (Kind.LINE, Kind.LINE_AT_PLACE):
+                self.assertEqual(event.place is None, event.kind == Kind.LINE)
+                found.append((event.place, ""))
+            elif event.kind == Kind.CUSTOM_SECTION:
+                self.assertLessEqual(event.place, len(case.wasm))
+            else:
+                self.assertIsNone(event.place)
+                self.assertEqual(is_open, event.kind == Kind.RESET)
+                is_open = not is_open
+            found[-1] = found[-1][0], found[-1][1] + event.text
+        self.assertFalse(is_open)
+        self.assertEqual(found, lines)
+        colored = wasmprinter.print_ansi(case.wasm, **case.options)
+        self.assertEqual(SEQUENCE.sub("", colored), "".join(line.text for line in lines))
 
     def check_limits(self, case):
         """Prints with each limit from 1 to two bytes more than the text."""
@@ -159,9 +215,9 @@ class Errors(unittest.TestCase):
 
     def test_unknown_option(self):
         with self.assertRaises(wasmprinter.UnknownOption) as raised:
-            wasmprinter._print_whole(EMPTY, 0x38, b"  ", 1, with_lines=False)
-        check_error(self, raised.exception, "UnknownOption", 0x30)
-        self.assertEqual(str(raised.exception), "unknown options 0x30")
+            wasmprinter._print_whole(EMPTY, 0x68, b"  ", 1, 0)
+        check_error(self, raised.exception, "UnknownOption", 0x60)
+        self.assertEqual(str(raised.exception), "unknown options 0x60")
 
     def test_unknown_status(self):
         for status, text in ((99, "unknown status"), (12, "the indent is not UTF-8")):
@@ -176,12 +232,12 @@ class Options(unittest.TestCase):
     def test_no_bool(self):
         for name in ("offsets", "skeleton", "name_unnamed", "fold"):
             for value in (1, 0, "no", None, []):
-                for function in (wasmprinter.print_bytes, wasmprinter.print_lines):
+                for function in FUNCTIONS:
                     with self.subTest(name, value=value), self.assertRaisesRegex(TypeError, f"{name} must be a bool, not"):
                         function(EMPTY, **{name: value})
 
     def test_only_keywords(self):
-        for function in (wasmprinter.print_bytes, wasmprinter.print_lines, wasmprinter.print_file):
+        for function in (*FUNCTIONS, wasmprinter.print_file):
             with self.assertRaises(TypeError):
                 function(EMPTY, True)
 
@@ -201,10 +257,8 @@ class Options(unittest.TestCase):
 
 
 class Limits(unittest.TestCase):
-    FUNCTIONS = wasmprinter.print_bytes, wasmprinter.print_lines
-
     def test_no_limit(self):
-        for function in self.FUNCTIONS:
+        for function in FUNCTIONS:
             for limit in (True, False, 9.0, "9", []):
                 with self.subTest(limit), self.assertRaisesRegex(TypeError, "limit must be an int or None, not"):
                     function(EMPTY, limit=limit)
@@ -223,7 +277,7 @@ class Limits(unittest.TestCase):
             self.assertEqual(wasmprinter.print_bytes(WITH_NOPS, limit=limit), text)
             self.assertEqual(list(wasmprinter.print_lines(WITH_NOPS, limit=limit)), LINES_WITH_NOPS)
         for limit in (1, 4096, len(text) - 1):
-            for function in self.FUNCTIONS:
+            for function in FUNCTIONS:
                 with self.assertRaises(wasmprinter.TooLong):
                     function(WITH_NOPS, limit=limit)
 
@@ -283,6 +337,52 @@ class Lines(unittest.TestCase):
         self.assertEqual([line.text for line in lines], ["(module\n", "é(type (;0;) (func))\n", ")\n"])
 
 
+class Events(unittest.TestCase):
+    def test_typed_events(self):
+        events = list(wasmprinter.print_events(ONE_TYPE))
+        self.assertEqual(events, EVENTS)
+        self.assertIsInstance(events[0], wasmprinter.Event)
+        self.assertEqual((events[0].kind, events[0].place, events[0].text), (Kind.LINE_AT_PLACE, 0, "("))
+
+    def test_iterator(self):
+        events = wasmprinter.print_events(EMPTY)
+        self.assertIs(iter(events), events)
+        self.assertEqual(next(events).text, "(")
+
+    def test_error_before_the_first_event(self):
+        with self.assertRaises(wasmprinter.Malformed):
+            wasmprinter.print_events(b"")
+
+    def test_custom_section(self):
+        events = list(wasmprinter.print_events(EMPTY + b"\0\3\1a\1"))
+        self.assertEqual([event for event in events if event.kind == Kind.CUSTOM_SECTION], [(Kind.CUSTOM_SECTION, 12, "\n")])
+
+    def test_folded_operators(self):
+        """The text of a folded operator has no styles."""
+        events = list(wasmprinter.print_events(IDENTITY, fold=True))
+        at = events.index((Kind.LINE_AT_PLACE, 32, "    (local.get 0)\n"))
+        self.assertEqual(events[at + 1:], [(Kind.LINE_AT_PLACE, 34, "  )\n"), (Kind.LINE_AT_PLACE, 35, ")\n")])
+
+    def test_colors(self):
+        self.assertEqual(wasmprinter.print_ansi(IDENTITY), IDENTITY_IN_COLORS)
+        length = len(SEQUENCE.sub("", IDENTITY_IN_COLORS))
+        self.assertEqual(wasmprinter.print_ansi(IDENTITY, limit=length), IDENTITY_IN_COLORS)
+        with self.assertRaises(wasmprinter.TooLong):
+            wasmprinter.print_ansi(IDENTITY, limit=length - 1)
+
+    def test_unknown_kind(self):
+        """A later release may have other kinds."""
+        table = b"".join(wasmprinter._EVENT.pack(start, 7, kind) for start, kind in ((0, 1), (1, 9), (2, 7)))
+        events = wasmprinter._events(memoryview(b"abc"), memoryview(table))
+        self.assertEqual(list(events), [(Kind.LINE_AT_PLACE, 7, "a"), (9, None, "b"), (Kind.RESET, None, "c")])
+        with unittest.mock.patch.object(wasmprinter, "_print_whole", return_value=(memoryview(b"abc"), memoryview(table))):
+            self.assertEqual(wasmprinter.print_ansi(b""), "ab\x1b[0mc")
+
+    def test_kinds(self):
+        names = "LINE", "LINE_AT_PLACE", "NAME", "LITERAL", "KEYWORD", "TYPE", "COMMENT", "RESET", "CUSTOM_SECTION"
+        self.assertEqual([(kind.name, kind.value) for kind in Kind], [(name, number) for number, name in enumerate(names)])
+
+
 class Memory(unittest.TestCase):
     """Texts and tables that are longer than the first buffers, and failing allocations."""
 
@@ -297,6 +397,17 @@ class Memory(unittest.TestCase):
         self.assertEqual(wasmprinter.print_bytes(WITH_NOPS), "".join(text for _, text in LINES_WITH_NOPS))
         self.assertEqual(list(wasmprinter.print_lines(WITH_NOPS)), LINES_WITH_NOPS)
 
+    def test_many_events(self):
+        """The first buffer has the length of the text, and an event starts for less than 4 bytes. So the module is printed twice."""
+        types = 200
+        wasm = EMPTY + b"\1\xda\4\xc8\1" + b"\x60\0\0" * types
+        text = "(module\n" + "".join(f"  (type (;{index};) (func))\n" for index in range(types)) + ")\n"
+        with unittest.mock.patch.object(wasmprinter, "_print", wraps=wasmprinter._print) as function:
+            events = list(wasmprinter.print_events(wasm, limit=len(text)))
+        self.assertEqual(function.call_count, 2)
+        self.assertEqual(len(events), 4 + types * 7)
+        self.assertEqual("".join(event.text for event in events), text)
+
     def test_calls(self):
         """A text that fits is printed once, and any other twice."""
         for wasm, indent, calls in ((WITH_NOPS, 2, 1), (ONE_TYPE, self.LONG, 2)):
@@ -305,8 +416,8 @@ class Memory(unittest.TestCase):
             self.assertEqual(function.call_count, calls)
 
     def test_capacities(self):
-        """The first buffer has 12 bytes for each byte of the module, and the first table an entry for 16 bytes of the buffer."""
-        for print_module, lines in ((wasmprinter.print_bytes, 0), (wasmprinter.print_lines, 330)):
+        """The first buffer has 12 bytes for each byte of the module, and the first table an entry for 16 bytes of the buffer, or for 4."""
+        for print_module, lines in ((wasmprinter.print_bytes, 0), (wasmprinter.print_lines, 330), (wasmprinter.print_events, 1130)):
             with unittest.mock.patch.object(wasmprinter, "_print", wraps=wasmprinter._print) as function:
                 print_module(ONE_TYPE)
             out_len, lines_len = function.call_args[0][7], function.call_args[0][9]
@@ -328,9 +439,11 @@ class Memory(unittest.TestCase):
         with self.failing(100):
             self.assertEqual(wasmprinter.print_bytes(EMPTY), "(module)\n")
             self.assertEqual(list(wasmprinter.print_lines(EMPTY)), [(0, "(module)\n")])
+            self.assertEqual("".join(event.text for event in wasmprinter.print_events(EMPTY)), "(module)\n")
 
     def test_no_memory(self):
-        for longest, function in ((0, wasmprinter.print_bytes), (0, wasmprinter.print_lines), (20, wasmprinter.print_lines)):
+        failing = *((0, function) for function in FUNCTIONS), (20, wasmprinter.print_lines), (20, wasmprinter.print_events)
+        for longest, function in failing:
             with self.failing(longest), self.assertRaises(wasmprinter.OutOfMemory):
                 function(EMPTY)
 

@@ -11,6 +11,7 @@ SOURCES = {
     "bindings/README.md": (
         "bindings/c/example.c",
         "bindings/c/preview.c",
+        "bindings/c/color.c",
         "bindings/cpp/example.cpp",
         "bindings/rust/README.md",
         "bindings/python/README.md",

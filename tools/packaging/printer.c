@@ -20,9 +20,9 @@ size_t rattle_over(uint8_t *out, size_t out_len, const char *text) {
 }
 
 WasmprinterStatus wasmprinter_raw_print(const uint8_t *wasm, size_t wasm_len, uint32_t flags, const uint8_t *indent, size_t indent_len,
-                                        size_t limit, uint8_t *out, size_t out_len, WasmprinterLine *lines, size_t lines_len,
+                                        size_t limit, uint8_t *out, size_t out_len, WasmprinterEvent *table, size_t table_len,
                                         WasmprinterResult *result) {
-    (void)wasm, (void)wasm_len, (void)flags, (void)indent, (void)indent_len, (void)limit, (void)lines, (void)lines_len;
+    (void)wasm, (void)wasm_len, (void)flags, (void)indent, (void)indent_len, (void)limit, (void)table, (void)table_len;
     result->length = rattle_over(out, out_len, "(module)\n");
     result->count = 1;
     result->detail = 0;

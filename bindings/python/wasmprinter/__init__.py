@@ -19,6 +19,7 @@ Options of the functions that print:
 from __future__ import annotations
 
 import ctypes
+import enum
 import itertools
 import mmap
 import os
@@ -26,8 +27,9 @@ import struct
 from typing import Any, ClassVar, Dict, Iterator, NamedTuple, Optional, Tuple, Type, Union
 
 __all__ = [
-    "print_bytes", "print_file", "print_lines", "version", "revision", "BytesLike", "Line", "Error", "Malformed", "Component", "TooManyLocals",
-    "TooManyFunctions", "EmptyTableInit", "FoldLegacy", "FoldHint", "DylinkSubsection", "TooLong", "OutOfMemory", "UnknownOption",
+    "print_bytes", "print_file", "print_lines", "print_events", "print_ansi", "version", "revision", "BytesLike", "Line", "Event", "Kind", "Error",
+    "Malformed", "Component", "TooManyLocals", "TooManyFunctions", "EmptyTableInit", "FoldLegacy", "FoldHint", "DylinkSubsection", "TooLong",
+    "OutOfMemory", "UnknownOption",
 ]
 
 # the release 0.263.0-r1
@@ -44,13 +46,14 @@ _SIZE_MAX = ctypes.c_size_t(-1).value
 
 # the bits of the options
 _FLAGS = {"offsets": 1, "skeleton": 2, "name_unnamed": 4, "fold": 8}
+_EVENTS = 16
 
-# WasmprinterLine: start, place, has_place
-_LINE = struct.Struct("NQI4x")
+# WasmprinterEvent: start, place, kind
+_EVENT = struct.Struct("NQI4x")
 
-# Most texts have less than 12 bytes for each byte of the module, and more than 16 bytes in a line.
+# Most texts have less than 12 bytes for each byte of the module, and more than 16 bytes in a line. An event is expected for 4 bytes of the text.
 _TEXT_PER_BYTE, _LEAST_TEXT = 12, 4096
-_TEXT_PER_LINE, _LEAST_LINES = 16, 64
+_TEXT_PER_LINE, _TEXT_PER_EVENT, _LEAST_ENTRIES = 16, 4, 64
 
 # factors of the parts of the version number
 _MAJOR, _MINOR = 1_000_000, 1_000
@@ -161,6 +164,55 @@ class Line(NamedTuple):
     text: str
 
 
+class Kind(enum.IntEnum):
+    """The kinds of events. A style lasts until the next style event, one of the kinds from NAME to RESET."""
+
+    LINE = 0
+    """A line starts that shows nothing of the module."""
+    LINE_AT_PLACE = 1
+    """A line with a place starts."""
+    NAME = 2
+    """The style of names and indices starts."""
+    LITERAL = 3
+    """The style of numbers and strings starts."""
+    KEYWORD = 4
+    """The style of keywords starts."""
+    TYPE = 5
+    """The style of types starts."""
+    COMMENT = 6
+    """The style of comments starts."""
+    RESET = 7
+    """The style ends."""
+    CUSTOM_SECTION = 8
+    """The lines of a custom section follow, if it is printed."""
+
+
+class Event(NamedTuple):
+    """An event of the text, with the text from its start to the next event. The texts of all events are the whole text.
+
+    `kind` is a Kind, or another number if the library is a later release. `place` is the place of a line, or that of the data of a custom
+    section, otherwise `None`.
+    """
+
+    kind: int
+    place: Optional[int]
+    text: str
+
+
+_KINDS = {kind.value: kind for kind in Kind}
+_PLACED = (Kind.LINE_AT_PLACE, Kind.CUSTOM_SECTION)
+
+# the escape sequences for colors, as `printwasm --color` writes them
+_SEQUENCES = {
+    Kind.NAME: "\x1b[0m\x1b[35m",
+    Kind.LITERAL: "\x1b[0m\x1b[31m",
+    Kind.KEYWORD: "\x1b[0m\x1b[1m\x1b[38;5;11m",
+    Kind.TYPE: "\x1b[0m\x1b[1m\x1b[38;5;10m",
+    Kind.COMMENT: "\x1b[0m\x1b[36m",
+    Kind.RESET: "\x1b[0m",
+}
+
+
 class _Result(ctypes.Structure):
     """WasmprinterResult."""
 
@@ -264,24 +316,25 @@ def _first(memory: Union[mmap.mmap, bytes]) -> ctypes.c_uint8:
     return ctypes.c_uint8() if isinstance(memory, bytes) else ctypes.c_uint8.from_buffer(memory)
 
 
-def _print_whole(data: BytesLike, flags: int, indent: bytes, limit: int, with_lines: bool) -> Tuple[memoryview, memoryview]:
-    """Returns the text in UTF-8, and the table of its lines, which is empty if it is not needed. Raises a subclass of Error.
+def _print_whole(data: BytesLike, flags: int, indent: bytes, limit: int, text_per_entry: int) -> Tuple[memoryview, memoryview]:
+    """Returns the text in UTF-8, and the table of its lines or events, which is empty if it is not needed. Raises a subclass of Error.
 
-    Nearly every module is printed once. It is printed again if its text or its table is longer than expected, or if there is not enough memory
-    for the expected lengths.
+    An entry of the table is expected for `text_per_entry` bytes of the text. If it is 0, the table is not needed. Nearly every module is printed
+    once. It is printed again if its text or its table is longer than expected, or if there is not enough memory for the expected lengths.
     """
     wasm = data if isinstance(data, bytes) else memoryview(data).tobytes()
     expected = min(len(wasm) * _TEXT_PER_BYTE + _LEAST_TEXT, limit)
-    text, table = _allocate(expected), _allocate((expected // _TEXT_PER_LINE + _LEAST_LINES) * _LINE.size if with_lines else 0)
+    entries = expected // text_per_entry + _LEAST_ENTRIES if text_per_entry > 0 else 0
+    text, table = _allocate(expected), _allocate(entries * _EVENT.size)
     result = _Result()
     while True:
         status = _print(
             wasm, len(wasm), flags, indent, len(indent), limit,
-            _first(text), len(text), _first(table), len(table) // _LINE.size, result,
+            _first(text), len(text), _first(table), len(table) // _EVENT.size, result,
         )
         if status != _SUCCESS:
             raise _error_of(status, result.detail)
-        table_len = result.count * _LINE.size if with_lines else 0
+        table_len = result.count * _EVENT.size if text_per_entry > 0 else 0
         if result.length <= len(text) and table_len <= len(table):
             return memoryview(text)[:result.length], memoryview(table)[:table_len]
         text, table = _allocate(result.length), _allocate(table_len)
@@ -296,7 +349,7 @@ def print_bytes(
 ) -> str:
     """Returns the text of a module. Raises a subclass of Error if it can't be printed."""
     flags = _flags_of(offsets=offsets, skeleton=skeleton, name_unnamed=name_unnamed, fold=fold)
-    text, _ = _print_whole(data, flags, _indent_of(indent), _limit_of(limit), with_lines=False)
+    text, _ = _print_whole(data, flags, _indent_of(indent), _limit_of(limit), 0)
     return str(text, "utf-8")
 
 
@@ -321,16 +374,42 @@ def print_lines(
     The iterator keeps the text and a table of 24 bytes for each line. It makes each Line when it returns it.
     """
     flags = _flags_of(offsets=offsets, skeleton=skeleton, name_unnamed=name_unnamed, fold=fold)
-    return _lines(*_print_whole(data, flags, _indent_of(indent), _limit_of(limit), with_lines=True))
+    return (Line(place, text) for _, place, text in _events(*_print_whole(data, flags, _indent_of(indent), _limit_of(limit), _TEXT_PER_LINE)))
 
 
-def _lines(text: memoryview, table: memoryview) -> Iterator[Line]:
-    """Yields the lines of a text."""
-    rows = itertools.chain(_LINE.iter_unpack(table), [(len(text), 0, 0)])
-    start, place, has_place = next(rows)
-    for end, next_place, has_next_place in rows:
-        yield Line(place if has_place else None, str(text[start:end], "utf-8"))
-        start, place, has_place = end, next_place, has_next_place
+def print_events(
+    data: BytesLike, *,
+    offsets: bool = False, skeleton: bool = False, name_unnamed: bool = False, fold: bool = False, indent: Union[str, int] = "  ",
+    limit: Optional[int] = None,
+) -> Iterator[Event]:
+    """Prints a module, and returns an iterator over all events of its text. Raises a subclass of Error if the module can't be printed.
+
+    The iterator keeps the text and a table of 24 bytes for each event. It makes each Event when it returns it.
+    """
+    flags = _flags_of(offsets=offsets, skeleton=skeleton, name_unnamed=name_unnamed, fold=fold) | _EVENTS
+    return _events(*_print_whole(data, flags, _indent_of(indent), _limit_of(limit), _TEXT_PER_EVENT))
+
+
+def print_ansi(
+    data: BytesLike, *,
+    offsets: bool = False, skeleton: bool = False, name_unnamed: bool = False, fold: bool = False, indent: Union[str, int] = "  ",
+    limit: Optional[int] = None,
+) -> str:
+    """Returns the text of a module with ANSI escape sequences for colors. Raises a subclass of Error if it can't be printed.
+
+    Folded operators have no colors. The limit is that of the text without escape sequences.
+    """
+    events = print_events(data, offsets=offsets, skeleton=skeleton, name_unnamed=name_unnamed, fold=fold, indent=indent, limit=limit)
+    return "".join(_SEQUENCES.get(kind, "") + text for kind, _, text in events)
+
+
+def _events(text: memoryview, table: memoryview) -> Iterator[Event]:
+    """Yields the events of a text."""
+    rows = itertools.chain(_EVENT.iter_unpack(table), [(len(text), 0, 0)])
+    start, place, kind = next(rows)
+    for end, next_place, next_kind in rows:
+        yield Event(_KINDS.get(kind, kind), place if kind in _PLACED else None, str(text[start:end], "utf-8"))
+        start, place, kind = end, next_place, next_kind
 
 
 def version() -> Tuple[int, int, int]:

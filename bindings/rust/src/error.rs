@@ -134,9 +134,54 @@ impl From<Error> for io::Error {
     }
 }
 
+/// The reason why [`Config::print`](crate::Config::print) failed.
+#[derive(Debug)]
+pub enum PrintError {
+    /// The module can't be printed.
+    Module(Error),
+    /// The printer returned this error.
+    Printer(io::Error),
+}
+
+/// Writes the description of the error inside.
+impl fmt::Display for PrintError {
+    fn fmt(&self, f: &mut fmt::Formatter<'_>) -> fmt::Result {
+        match self {
+            PrintError::Module(error) => error.fmt(f),
+            PrintError::Printer(error) => error.fmt(f),
+        }
+    }
+}
+
+impl std::error::Error for PrintError {
+    fn source(&self) -> Option<&(dyn std::error::Error + 'static)> {
+        match self {
+            PrintError::Module(error) => error.source(),
+            PrintError::Printer(error) => error.source(),
+        }
+    }
+}
+
+impl From<Error> for PrintError {
+    fn from(error: Error) -> PrintError {
+        PrintError::Module(error)
+    }
+}
+
+/// Returns the printer's error, or wraps that of the module.
+impl From<PrintError> for io::Error {
+    fn from(error: PrintError) -> io::Error {
+        match error {
+            PrintError::Module(error) => error.into(),
+            PrintError::Printer(error) => error,
+        }
+    }
+}
+
 #[cfg(test)]
 mod tests {
-    use super::Error;
+    use super::{Error, PrintError};
+    use std::error::Error as _;
     use std::io;
 
     #[test]
@@ -173,6 +218,18 @@ mod tests {
                 detail: 7
             }
         );
+    }
+
+    #[test]
+    fn keeps_the_error_inside() {
+        let module = PrintError::from(Error::TooLong);
+        assert!(matches!(module, PrintError::Module(Error::TooLong)));
+        assert_eq!(module.to_string(), "the text is too long");
+        assert!(module.source().is_none());
+        assert_eq!(io::Error::from(module).kind(), io::ErrorKind::Other);
+        let printer = PrintError::Printer(io::Error::new(io::ErrorKind::BrokenPipe, "no reader"));
+        assert_eq!(printer.to_string(), "no reader");
+        assert_eq!(io::Error::from(printer).kind(), io::ErrorKind::BrokenPipe);
     }
 
     #[test]

@@ -1,6 +1,6 @@
 //! Prints WebAssembly modules, from the binary format to the text format.
 //!
-//! The names are those of the crate `wasmprinter`: [`print_bytes`], [`print_file`], [`Config`] and [`Error`]. The printer itself is the
+//! The names are those of the crate `wasmprinter`: [`print_bytes`], [`print_file`], [`Config`], [`Print`] and [`Error`]. The printer itself is the
 //! proved library `libwasmprinter`, which the crate `wasmprinter-proved-sys` links. There are no other dependencies.
 //!
 //! ```
@@ -11,13 +11,15 @@
 #![deny(missing_docs, clippy::undocumented_unsafe_blocks)]
 
 mod error;
+mod print;
 
 use std::io;
 use std::mem::MaybeUninit;
 use std::path::Path;
 use wasmprinter_proved_sys as sys;
 
-pub use error::Error;
+pub use error::{Error, PrintError};
+pub use print::{Print, PrintFmtWrite, PrintIoWrite};
 
 /// A [`Result`](std::result::Result) with the error of this crate.
 pub type Result<T> = std::result::Result<T, Error>;
@@ -40,6 +42,28 @@ pub fn print_bytes(wasm: impl AsRef<[u8]>) -> Result<String> {
 pub fn print_file(path: impl AsRef<Path>) -> Result<String> {
     let wasm = std::fs::read(path).map_err(|_| Error::Unreadable)?;
     print_bytes(wasm)
+}
+
+/// The entries of a table.
+#[derive(Clone, Copy)]
+enum Entries {
+    /// There is no table.
+    None,
+    /// The starts of lines.
+    Lines,
+    /// All events.
+    Events,
+}
+
+impl Entries {
+    /// Returns the expected number of entries for a text of this length. Most lines have more than 16 bytes.
+    fn expected(self, length: usize) -> usize {
+        match self {
+            Entries::None => 0,
+            Entries::Lines => length / 16 + 64,
+            Entries::Events => length / 4 + 64,
+        }
+    }
 }
 
 /// The options of printing.
@@ -128,9 +152,33 @@ impl Config {
     ///
     /// Each variant of [`Error`] except [`Error::Unreadable`]. [`Error::FoldLegacy`] and [`Error::FoldHint`] only if operators are folded.
     pub fn print_to_string(&self, wasm: impl AsRef<[u8]>) -> Result<String> {
-        let (mut text, _) = self.print_whole(wasm.as_ref(), false)?;
+        let (mut text, _) = self.print_whole(wasm.as_ref(), Entries::None)?;
         text.shrink_to_fit();
         Ok(text)
+    }
+
+    /// Prints a module to a printer, call by call. The whole text is in memory before the first call.
+    ///
+    /// The text between two events is one call of [`Print::write_str`]. The line feed at the end of a line is a call of [`Print::newline`].
+    ///
+    /// ```
+    /// let mut printer = wasmprinter::PrintFmtWrite(String::new());
+    /// wasmprinter::Config::new().print(b"\0asm\x01\0\0\0", &mut printer)?;
+    /// assert_eq!(printer.0, "(module)\n");
+    /// # Ok::<(), wasmprinter::PrintError>(())
+    /// ```
+    ///
+    /// # Errors
+    ///
+    /// - [`PrintError::Module`]: an error of [`Config::print_to_string`]. Then no call was made.
+    /// - [`PrintError::Printer`]: a call failed. Then no call was made after it.
+    pub fn print(
+        &self,
+        wasm: &[u8],
+        printer: &mut (impl Print + ?Sized),
+    ) -> std::result::Result<(), PrintError> {
+        let (text, events) = self.print_whole(wasm, Entries::Events)?;
+        print::replay(&text, &events, printer).map_err(PrintError::Printer)
     }
 
     /// Prints a module to a writer. The whole text is in memory before the first byte is written.
@@ -168,7 +216,7 @@ impl Config {
         wasm: &[u8],
         storage: &'a mut String,
     ) -> Result<impl Iterator<Item = (Option<u64>, &'a str)> + 'a> {
-        let (text, lines) = self.print_whole(wasm, true)?;
+        let (text, lines) = self.print_whole(wasm, Entries::Lines)?;
         let before = storage.len();
         if before == 0 {
             *storage = text;
@@ -181,8 +229,7 @@ impl Config {
         Ok(std::iter::from_fn(move || {
             let line = lines.next()?;
             let end = lines.peek().map_or(text.len(), |next| next.start);
-            let place = (line.has_place != 0).then_some(line.place);
-            Some((place, &text[line.start..end]))
+            Some((print::place_of(&line), &text[line.start..end]))
         }))
     }
 
@@ -195,68 +242,78 @@ impl Config {
     pub fn print_over(&self, wasm: &[u8], out: &mut [u8]) -> Result<usize> {
         // SAFETY: the types have the same layout, and `print` writes only initialised bytes.
         let out = unsafe { &mut *(out as *mut [u8] as *mut [MaybeUninit<u8>]) };
-        Ok(self.print(wasm, out, &mut [])?.length)
+        Ok(self.print_raw(wasm, Entries::None, out, &mut [])?.length)
     }
 
-    /// Returns the text, and the table of its lines if it is needed.
+    /// Returns the text, and the table of these entries.
     ///
     /// Nearly every module is printed once. It is printed again if its text or its table is longer than expected, or if there is not enough
     /// memory for the expected lengths.
     fn print_whole(
         &self,
         wasm: &[u8],
-        with_lines: bool,
-    ) -> Result<(String, Vec<sys::WasmprinterLine>)> {
-        // Most texts have less than 12 bytes for each byte of the module, and more than 16 bytes in a line. Pages of an allocation that are
-        // not written to take no memory.
+        entries: Entries,
+    ) -> Result<(String, Vec<sys::WasmprinterEvent>)> {
+        // Most texts have less than 12 bytes for each byte of the module. Pages of an allocation that are not written to take no memory.
         let expected = wasm.len().saturating_mul(12).saturating_add(4096);
         let expected = expected.min(self.limit);
-        let expected_lines = if with_lines { expected / 16 + 64 } else { 0 };
-        let (mut text, mut lines) = (Vec::new(), Vec::new());
+        let (mut text, mut table) = (Vec::new(), Vec::new());
         // If one of these allocations fails, the first round only measures.
         let _ = text.try_reserve_exact(expected);
-        let _ = lines.try_reserve_exact(expected_lines);
+        let _ = table.try_reserve_exact(entries.expected(expected));
         loop {
-            let printed =
-                self.print(wasm, text.spare_capacity_mut(), lines.spare_capacity_mut())?;
-            let count = if with_lines { printed.count } else { 0 };
-            if printed.length <= text.capacity() && count <= lines.capacity() {
-                // SAFETY: this many bytes and lines fit, so the library has written all of them.
+            let printed = self.print_raw(
+                wasm,
+                entries,
+                text.spare_capacity_mut(),
+                table.spare_capacity_mut(),
+            )?;
+            let count = match entries {
+                Entries::None => 0,
+                Entries::Lines | Entries::Events => printed.count,
+            };
+            if printed.length <= text.capacity() && count <= table.capacity() {
+                // SAFETY: this many bytes and entries fit, so the library has written all of them.
                 unsafe {
                     text.set_len(printed.length);
-                    lines.set_len(count);
+                    table.set_len(count);
                 }
                 let text = String::from_utf8(text).expect("the text is UTF-8");
-                return Ok((text, lines));
+                return Ok((text, table));
             }
             text.try_reserve_exact(printed.length)
-                .and_then(|()| lines.try_reserve_exact(count))
+                .and_then(|()| table.try_reserve_exact(count))
                 .map_err(|_| Error::Memory)?;
         }
     }
 
-    /// Writes as much of the text and of the table of its lines as fits, and returns the lengths of the whole text and table.
-    fn print(
+    /// Writes as much of the text and of the table of these entries as fits, and returns the lengths of the whole text and table.
+    fn print_raw(
         &self,
         wasm: &[u8],
+        entries: Entries,
         out: &mut [MaybeUninit<u8>],
-        lines: &mut [MaybeUninit<sys::WasmprinterLine>],
+        table: &mut [MaybeUninit<sys::WasmprinterEvent>],
     ) -> Result<sys::WasmprinterResult> {
         let mut result = sys::WasmprinterResult::default();
+        let events = match entries {
+            Entries::None | Entries::Lines => 0,
+            Entries::Events => sys::WASMPRINTER_EVENTS,
+        };
         // SAFETY: each pointer and length comes from a reference that is valid during the call, so no pointer is null. The library writes only
-        // through mutable references, so they overlap nothing, and it reads neither `out` nor `lines`.
+        // through mutable references, so they overlap nothing, and it reads neither `out` nor `table`.
         let status = unsafe {
             sys::wasmprinter_raw_print(
                 wasm.as_ptr(),
                 wasm.len(),
-                self.flags,
+                self.flags | events,
                 self.indent.as_ptr(),
                 self.indent.len(),
                 self.limit,
                 out.as_mut_ptr().cast(),
                 out.len(),
-                lines.as_mut_ptr().cast(),
-                lines.len(),
+                table.as_mut_ptr().cast(),
+                table.len(),
                 &mut result,
             )
         };

@@ -1,6 +1,7 @@
 //! Checks every case of `bindings/cases.txt`. The package leaves this file out, and `printing.rs` has tests that need no file.
 
-use wasmprinter::{Config, Error};
+use std::io;
+use wasmprinter::{Config, Error, Print, PrintError};
 
 const CASES: &str = include_str!("../../cases.txt");
 
@@ -13,6 +14,66 @@ struct Refusal {
     name: String,
     text: String,
     left: String,
+}
+
+/// Keeps the lines of a text. Checks that styles start and end in turn. No case has a style that starts in another one.
+#[derive(Default)]
+struct Lines {
+    ended: Vec<(Option<u64>, String)>,
+    line: (Option<u64>, String),
+    has_style: bool,
+}
+
+impl Lines {
+    fn start(&mut self) -> io::Result<()> {
+        assert!(!self.has_style);
+        self.has_style = true;
+        Ok(())
+    }
+}
+
+impl Print for Lines {
+    fn write_str(&mut self, s: &str) -> io::Result<()> {
+        self.line.1 += s;
+        Ok(())
+    }
+
+    fn newline(&mut self) -> io::Result<()> {
+        self.line.1 += "\n";
+        self.ended.push(std::mem::take(&mut self.line));
+        Ok(())
+    }
+
+    fn start_line(&mut self, binary_offset: Option<u64>) {
+        assert_eq!(self.line, (None, String::new()));
+        self.line.0 = binary_offset;
+    }
+
+    fn start_literal(&mut self) -> io::Result<()> {
+        self.start()
+    }
+
+    fn start_name(&mut self) -> io::Result<()> {
+        self.start()
+    }
+
+    fn start_keyword(&mut self) -> io::Result<()> {
+        self.start()
+    }
+
+    fn start_type(&mut self) -> io::Result<()> {
+        self.start()
+    }
+
+    fn start_comment(&mut self) -> io::Result<()> {
+        self.start()
+    }
+
+    fn reset_color(&mut self) -> io::Result<()> {
+        assert!(self.has_style);
+        self.has_style = false;
+        Ok(())
+    }
 }
 
 /// A case: the input and the expected results.
@@ -83,6 +144,7 @@ impl Case {
             None => {
                 self.check_text();
                 self.check_lines();
+                self.check_printer();
             }
             Some(refusal) => self.check_refusal(refusal),
         }
@@ -159,6 +221,17 @@ impl Case {
         assert!(storage.starts_with("before\n(module"), "{}", self.title);
     }
 
+    /// Prints call by call.
+    fn check_printer(&self) {
+        let mut lines = Lines::default();
+        self.config.print(&self.wasm, &mut lines).expect("a text");
+        assert!(!lines.has_style, "{}", self.title);
+        if !self.has_places {
+            lines.ended.iter_mut().for_each(|line| line.0 = None);
+        }
+        assert_eq!(lines.ended, self.lines, "{}", self.title);
+    }
+
     fn check_refusal(&self, refusal: &Refusal) {
         let error = self.config.print_to_string(&self.wasm).unwrap_err();
         // An error that is found before printing does not depend on the limit.
@@ -168,6 +241,10 @@ impl Case {
         let debug = format!("{error:?}");
         assert_eq!(debug.split(' ').next(), Some(refusal.name.as_str()));
         assert_eq!(error.to_string(), refusal.text);
+        match self.config.print(&self.wasm, &mut Lines::default()) {
+            Err(PrintError::Module(other)) => assert_eq!(other, error, "{}", self.title),
+            other => panic!("{}: {other:?}", self.title),
+        }
         let mut storage = "before\n".to_owned();
         let lines = self.config.offsets_and_lines(&self.wasm, &mut storage);
         assert_eq!(lines.err(), Some(error), "{}", self.title);

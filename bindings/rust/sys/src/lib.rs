@@ -27,6 +27,9 @@ pub const WASMPRINTER_NAME_UNNAMED: u32 = 4;
 /// A bit of the flags: put each operator in parentheses with its operands.
 pub const WASMPRINTER_FOLD: u32 = 8;
 
+/// A bit of the flags: fill the table with all events, not only with the starts of lines.
+pub const WASMPRINTER_EVENTS: u32 = 16;
+
 /// A status: 0, or the number of an error. Each error stores a detail, which is 0 unless stated otherwise.
 pub type WasmprinterStatus = u32;
 
@@ -81,37 +84,65 @@ pub const WASMPRINTER_ERROR_TEXT_LEN: usize = 200;
 pub struct WasmprinterResult {
     /// The length of the whole text, or 0 after an error.
     pub length: usize,
-    /// The number of lines of the whole text, or 0 after an error.
+    /// The number of lines of the whole text, with [`WASMPRINTER_EVENTS`] of all its events, or 0 after an error.
     pub count: usize,
     /// The detail of an error, or 0.
     pub detail: u64,
 }
 
-/// A line of the text. A line ends where the next one starts, or at the end of the text. Its last byte is a line feed.
+/// A kind of event: a line starts that shows nothing of the module.
+pub const WASMPRINTER_LINE: u32 = 0;
+
+/// A kind of event: a line with a place starts.
+pub const WASMPRINTER_LINE_AT_PLACE: u32 = 1;
+
+/// A kind of event: the style of names and indices starts.
+pub const WASMPRINTER_NAME: u32 = 2;
+
+/// A kind of event: the style of numbers and strings starts.
+pub const WASMPRINTER_LITERAL: u32 = 3;
+
+/// A kind of event: the style of keywords starts.
+pub const WASMPRINTER_KEYWORD: u32 = 4;
+
+/// A kind of event: the style of types starts.
+pub const WASMPRINTER_TYPE: u32 = 5;
+
+/// A kind of event: the style of comments starts.
+pub const WASMPRINTER_COMMENT: u32 = 6;
+
+/// A kind of event: the style ends.
+pub const WASMPRINTER_RESET: u32 = 7;
+
+/// A kind of event: the lines of a custom section follow, if it is printed.
+pub const WASMPRINTER_CUSTOM_SECTION: u32 = 8;
+
+/// An event of the text. The events are in the order of printing: no `start` is less than the one before, and several can be equal.
+/// `wasmprinter.h` says more about lines and styles.
 #[repr(C)]
 #[derive(Clone, Copy, Debug, Default)]
-pub struct WasmprinterLine {
-    /// The byte offset of the line from the start of the text.
+pub struct WasmprinterEvent {
+    /// The byte offset of the event from the start of the text.
     pub start: usize,
-    /// The place of the line in the module, or 0 if `has_place` is 0.
+    /// Of a line with a place: its place. Of a custom section: the place of its data. Otherwise 0.
     pub place: u64,
-    /// 1 if the line has a place, 0 if it shows nothing of the module.
-    pub has_place: u32,
+    /// [`WASMPRINTER_LINE`] or another kind. A later release may add kinds: ignore events of unknown kinds.
+    pub kind: u32,
 }
 
 extern "C" {
-    /// Prints the text of a module to `out`: as many of its first bytes as fit. Writes a table of its lines to `lines`: as many of the first
-    /// lines as fit. Stores the length of the whole text and the number of all lines in `result`, or the detail of an error. Returns
-    /// [`WASMPRINTER_OK`] or the number of an error.
+    /// Prints the text of a module to `out`: as many of its first bytes as fit. Writes a table of the starts of its lines to `table`: as many
+    /// of the first lines as fit. With [`WASMPRINTER_EVENTS`] it does the same with all events. Stores the length of the whole text and the
+    /// number of all lines or events in `result`, or the detail of an error. Returns [`WASMPRINTER_OK`] or the number of an error.
     ///
     /// `flags` is the sum of [`WASMPRINTER_OFFSETS`] and the others. `indent` is the text of one level of nesting, in UTF-8. `limit` is the
     /// greatest length of the text, and `usize::MAX` means no limit: printing stops with [`WASMPRINTER_TOO_LONG`] before the text gets longer.
-    /// `lines_len` is the capacity of the table in lines. `wasmprinter.h` says what an error leaves in `out` and `lines`.
+    /// `table_len` is the capacity of the table in events. `wasmprinter.h` says what an error leaves in `out` and `table`.
     ///
     /// # Safety
     ///
     /// No pointer is null, even if its length is 0. Each pointer is valid for its length: `wasm` and `indent` for reads of initialised bytes,
-    /// the others for writes. What `out`, `lines` and `result` point to overlaps nothing else. The library reads neither `out` nor `lines`
+    /// the others for writes. What `out`, `table` and `result` point to overlaps nothing else. The library reads neither `out` nor `table`
     /// (only tested).
     pub fn wasmprinter_raw_print(
         wasm: *const u8,
@@ -122,8 +153,8 @@ extern "C" {
         limit: usize,
         out: *mut u8,
         out_len: usize,
-        lines: *mut WasmprinterLine,
-        lines_len: usize,
+        table: *mut WasmprinterEvent,
+        table_len: usize,
         result: *mut WasmprinterResult,
     ) -> WasmprinterStatus;
 

@@ -5,18 +5,18 @@ use wasmprinter_proved_sys::*;
 /// Buffers are filled with this byte before a call.
 const GUARD: u8 = 0xa5;
 
-/// Prints a module with a limit over a buffer and a table of one line, and returns them with the status and the result.
+/// Prints a module with a limit over a buffer and a table of one event, and returns them with the status and the result.
 fn print(
     wasm: &[u8],
     flags: u32,
     limit: usize,
-) -> (u32, WasmprinterResult, [u8; 16], WasmprinterLine) {
+) -> (u32, WasmprinterResult, [u8; 16], WasmprinterEvent) {
     let indent = b"  ";
     let mut out = [GUARD; 16];
-    let mut line = WasmprinterLine {
+    let mut line = WasmprinterEvent {
         start: 1,
         place: 1,
-        has_place: 0,
+        kind: 99,
     };
     let mut result = WasmprinterResult::default();
     // SAFETY: each pointer and length comes from a reference.
@@ -54,8 +54,17 @@ fn prints() {
         assert_eq!((result.length, result.count, result.detail), (9, 1, 0));
         assert_eq!(&out[..9], b"(module)\n");
         assert_eq!(out[9..], [GUARD; 7]);
-        assert_eq!((line.start, line.place, line.has_place), (0, 0, 1));
+        assert_eq!((line.start, line.place, line.kind), (0, 0, 1));
     }
+}
+
+#[test]
+fn counts_events() {
+    let (status, result, out, event) = print(b"\0asm\x01\0\0\0", WASMPRINTER_EVENTS, usize::MAX);
+    assert_eq!(status, WASMPRINTER_OK);
+    assert_eq!((result.length, result.count, result.detail), (9, 3, 0));
+    assert_eq!(&out[..9], b"(module)\n");
+    assert_eq!((event.start, event.place, event.kind), (0, 0, 1));
 }
 
 #[test]
@@ -73,11 +82,11 @@ fn stops_before_the_limit() {
 
 #[test]
 fn refuses_unknown_options() {
-    let flags = 0x30 | WASMPRINTER_FOLD;
+    let flags = 0x60 | WASMPRINTER_FOLD;
     for limit in [0, 1, usize::MAX] {
         let (status, result, out, _) = print(b"\0asm\x01\0\0\0", flags, limit);
         assert_eq!(status, WASMPRINTER_UNKNOWN_OPTION);
-        assert_eq!((result.length, result.count, result.detail), (0, 0, 0x30));
+        assert_eq!((result.length, result.count, result.detail), (0, 0, 0x60));
         assert_eq!(out, [GUARD; 16]);
     }
 }
