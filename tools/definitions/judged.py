@@ -4,6 +4,7 @@ import re
 
 from scope import heads
 from texts import fault, shown
+from wasm import sections
 from wast import Unreadable, trees
 
 NOT_JUDGED = "**not judged**"
@@ -21,12 +22,17 @@ MESSAGES = (
 )
 # Proposals whose modules the definitions do not cover, by a pattern in the text or in the path.
 PROPOSALS = (
-    (re.compile(rb"\(cont\b|\bcont\.|\b(suspend|resume|switch)\b"), "stack switching"),
+    (re.compile(rb"\b(no)?cont\b|\b(suspend|resume|switch)\b"), "stack switching"),
     (re.compile(rb"compact-import"), "compact imports"),
-    (re.compile(rb"\(shared\b|\.atomic\.(get|set|rmw)|acqrel"), "shared-everything threads"),
+    (re.compile(rb"\(shared\b|_shared\b|\.atomic\.(get|set|rmw)|acqrel"), "shared-everything threads"),
     (re.compile(rb"\((descriptor|describes|exact)\b|_desc\b"), "custom descriptors"),
     (re.compile(rb"\bstring(ref|view)?\b|\bstring\."), "string references"),
 )
+# The same for modules that `wasm-tools print` refuses, by the message of `wasm-tools validate`.
+PROPOSALS_BY_MESSAGE = (("for external kind", "compact imports"), ("shared tables", "shared-everything threads"))
+FUNCTION_SECTION, CUSTOM_SECTION = 3, 0
+EMPTY_ELSE = re.compile(rb"\belse\s+end\b")
+CODE_ANNOTATION = re.compile(rb"\(\(@metadata\.code\.[^()]*\)\)")  # in parentheses of its own
 
 
 def fields_of(data):
@@ -52,13 +58,39 @@ def has_long_expression(fields):
     return any(heads(field, b"offset") or heads(field, b"item") for field in heads(fields, b"elem") + heads(fields, b"data"))
 
 
+def has_functions_as_items(fields):
+    """Reports whether an element segment has expressions of the type `(ref func)`."""
+    return any([b"ref", b"func"] in field for field in heads(fields, b"elem"))
+
+
+def has_custom_after_functions(data):
+    """Reports whether a custom section directly follows the function section."""
+    kinds = [kind for kind, _ in sections(data)]
+    return (FUNCTION_SECTION, CUSTOM_SECTION) in zip(kinds, kinds[1:])
+
+
+def wasm2wat_judgement(case):
+    """Returns the judgement of a text that wasm2wat printed, or nothing."""
+    fields = fields_of(case.data)
+    if has_table_init(fields):
+        return "fault of wasm2wat: it leaves out the initialiser of a table"
+    if has_long_expression(fields):
+        return "fault of wasm2wat: it writes an offset or an item of no operator, or of several, without `(offset ..)` or `(item ..)`"
+    if CODE_ANNOTATION.search(case.text):
+        return "fault of wasm2wat: it writes the annotation of an operator as a group of its own"
+    if EMPTY_ELSE.search(shown(case.data)):
+        return "documented: an `else` without operators is told from none; wasm2wat leaves it out"
+    if has_functions_as_items(fields):
+        return "documented: a list of functions is told from expressions of the type `(ref func)`; wasm2wat writes a list"
+    return ""
+
+
 def text_judgement(case):
     """Returns the judgement of a text that does not read as its module."""
-    fields = fields_of(case.data)
-    if case.label.maker.startswith("wasm2wat") and has_table_init(fields):
-        return "fault of wasm2wat: it leaves out the initialiser of a table"
-    if case.label.maker.startswith("wasm2wat") and has_long_expression(fields):
-        return "fault of wasm2wat: it writes an offset or an item of no operator, or of several, without `(offset ..)` or `(item ..)`"
+    if case.label.maker.startswith("wasm2wat") and (found := wasm2wat_judgement(case)):
+        return found
+    if case.label.maker.startswith("wasm-tools print") and b"(after type)" in case.text and has_custom_after_functions(case.data):
+        return "fault of wasm-tools print: it writes `(after type)` for a custom section after the function section"
     message = fault(case.data)
     if case.held == "unread" and "unknown type" in message:
         return "documented: the module uses a type that is not declared, and such a text is not read"
@@ -68,8 +100,10 @@ def text_judgement(case):
 def module_judgement(case):
     """Returns the judgement of a module that does not parse."""
     text = shown(case.data)
+    message = fault(case.data)
     proposal = next((name for pattern, name in PROPOSALS if pattern.search(text) or pattern.search(case.label.path.encode())), None)
-    return f"out of scope: {proposal}, a proposal" if proposal else f"{NOT_JUDGED} ({fault(case.data) or 'valid'})"
+    proposal = proposal or next((name for part, name in PROPOSALS_BY_MESSAGE if part in message), None)
+    return f"out of scope: {proposal}, a proposal" if proposal else f"{NOT_JUDGED} ({message or 'valid'})"
 
 
 def judgement(case):
