@@ -123,7 +123,7 @@ enum {
     WASMPRINTER_TYPE = 5,          /* the style of types starts */
     WASMPRINTER_COMMENT = 6,       /* the style of comments starts */
     WASMPRINTER_RESET = 7,         /* the style ends */
-    WASMPRINTER_CUSTOM_SECTION = 8 /* the lines of a custom section follow, if it is printed */
+    WASMPRINTER_CUSTOM_SECTION = 8 /* a custom section, printed or not; `start` is before the line feed of the line before */
 };
 
 /* An event of the text. The events are in the order of printing: no `start` is less than the one before, and several can be equal. */

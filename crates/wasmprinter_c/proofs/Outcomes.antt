@@ -79,7 +79,7 @@ outcome_of e = record { status = number_of e; length = 0; count = 0; detail = de
 module _ (r : Request) (bytes : List ℕ) (b : Buffers) where
   -- An error for a module with a valid indent, or for a component, has its outcome.
   error_outcome : (e : Error) → IsTrueOrUncopied r.options bytes e → HasBufferCause r.options bytes r.limit e →
-      LeavesBuffer r.options bytes e b.old b.new → (IsComponent bytes → number_of e ≡ 2) → (¬ IsComponent bytes → IsUtf8 r.options.indent) →
+      LeavesBuffer r.options bytes r.limit e b.old b.new → (IsComponent bytes → number_of e ≡ 2) → (¬ IsComponent bytes → IsUtf8 r.options.indent) →
       IsOutcome r bytes b (outcome_of e)
   error_outcome e is_so caused left two valid = record {
     printed = λ z. absurd (not_zero e z);
@@ -109,7 +109,7 @@ module _ (r : Request) (bytes : List ℕ) (b : Buffers) where
       error_outcome Memory (inr (refl, copied)) (λ placed s. inr copied) (inl same) (λ c. absurd (unmarked c)) (λ n. valid)
 
   refused_outcome : (e : Error) → ¬ IsComponent bytes → IsUtf8 r.options.indent → IsBufferRefusal r.options bytes r.limit e →
-      LeavesBuffer r.options bytes e b.old b.new → IsOutcome r bytes b (outcome_of e)
+      LeavesBuffer r.options bytes r.limit e b.old b.new → IsOutcome r bytes b (outcome_of e)
   refused_outcome e unmarked valid refused left = error_outcome e (inl refused.true_of) refused.caused left (λ c. absurd (unmarked c)) (λ n. valid)
 
 -- ---- The result of the function that prints
@@ -126,8 +126,8 @@ module _ (bytes : List ℕ) (b : Buffers) (outcome : Outcome) (p : Request) wher
   uncopied_by same unmarked valid copied is = by_result Memory is (memory_outcome p bytes b same unmarked valid copied)
 
   pub refused_by : (o : Options) (e : Error) → o ≡ p.options → ¬ IsComponent bytes → IsUtf8 p.options.indent → IsBufferRefusal o bytes p.limit e →
-      LeavesBuffer o bytes e b.old b.new → outcome ≡ outcome_of e → IsOutcome p bytes b outcome
+      LeavesBuffer o bytes p.limit e b.old b.new → outcome ≡ outcome_of e → IsOutcome p bytes b outcome
   refused_by o e same unmarked valid refused left is =
       by_result e is
       (refused_outcome p bytes b e unmarked valid (subst (λ (x : Options). IsBufferRefusal x bytes p.limit e) same refused)
-      (subst (λ (x : Options). LeavesBuffer x bytes e b.old b.new) same left))
+      (subst (λ (x : Options). LeavesBuffer x bytes p.limit e b.old b.new) same left))

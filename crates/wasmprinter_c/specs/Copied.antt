@@ -15,8 +15,8 @@ Grows old text new =
     × (new.written ≡ old.written + length text) × (new.written < 2 ^ 64) × (new.written ≤ new.limit) × (new.limit ≡ old.limit) × (new.all_events ≡ old.all_events)
     × (new.table ≡ old.table) × (new.count ≡ old.count)
 
--- These events follow the others in the table, as far as they fit, if they can be counted. Everything else is
--- unchanged.
+-- If these events can be counted, they follow the others in the table, as far as they fit. Otherwise nothing is said of
+-- the table's entries and of the count. Everything else is unchanged.
 abbrev pub Records : Copier → List WasmprinterEvent → Copier → Type 0
 Records old es new =
     (new.out ≡ old.out) × (new.written ≡ old.written) × (new.limit ≡ old.limit) × (new.all_events ≡ old.all_events)

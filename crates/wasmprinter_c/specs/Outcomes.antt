@@ -23,7 +23,7 @@ pub record DoesNothing (b : Buffers) (detail : ℕ) (stored : WasmprinterResult)
 -- The outcome of a call that prints a module, if the flags have no unknown bit.
 pub record IsOutcome (r : Request) (bytes : List ℕ) (b : Buffers) (outcome : Outcome) : Type 0 where
   -- If the status is `ok_status`, the module was printed: the buffer has the first bytes of its text and the table
-  -- has its first events, as many as fit.
+  -- has its first events, as many as fit, if they can be counted.
   pub printed : outcome.status ≡ ok_status → HasEventsOver r bytes b outcome.length outcome.count
   -- Any status except `ok_status` and `indent_status` is the number of an error for which the module was refused.
   pub refused : ¬ (outcome.status ≡ ok_status) → ¬ (outcome.status ≡ indent_status) → IsRefusedWith r bytes b outcome

@@ -54,7 +54,8 @@ pub record Buffers : Type 0 where
 abbrev pub buffers : List ℕ → List ℕ → List WasmprinterEvent → List WasmprinterEvent → Buffers
 buffers old new before after = record { old = old; new = new; before = before; after = after }
 
--- The bytes encode a module. Its text was written over the buffer, and its events over the table.
+-- The bytes encode a module. Its text was written over the buffer, and its events, if they can be counted, over the
+-- table.
 pub record HasEventsOver (r : Request) (bytes : List ℕ) (b : Buffers) (whole count : ℕ) : Type 0 where
   -- The text of the module.
   pub text : List ℕ

@@ -1,13 +1,10 @@
 -- The results of the library for C for a module that is not printed.
-use Rattle.std.specs.Prelude.{◌≡◌, ◌<◌, ◌⊎◌, ℕ, List, true, false, length}
+use Rattle.std.specs.Prelude.{◌≡◌, ◌<◌, ◌≤◌, ◌⊎◌, ℕ, List, true, false, length}
 use Rattle.wasmprinter_bytes.specs.declared.library_error.Error.{Error}
 use Rattle.wasmprinter_bytes.specs.declared.library_error.Error.TheVariants.{Malformed, Component, TooManyLocals, TooManyFunctions, EmptyTableInit, FoldLegacy, FoldHint, DylinkSubsection, Unreadable, Printer, Memory}
 use Rattle.wasmprinter_spec.specs.Binary.{Spells}
 use Rattle.wasmprinter_spec.specs.Placed.{PlacedModule}
-use Rattle.wasmprinter_spec.specs.Call.{text_of}
-use Rattle.wasmprinter_spec.specs.Options.{Options, Answers, defaults, with_color}
-use Rattle.wasmprinter_spec.specs.Layout.{layout}
-use Rattle.wasmprinter.specs.Decoded.{Decoded}
+use Rattle.wasmprinter_spec.specs.Options.{Options, defaults}
 use Rattle.wasmprinter.specs.Outcome.{HasPrintReason, print_reasons, causes, FirstIsUnknown, MayGrow, IsSoundRefusal}
 use Rattle.wasmprinter.specs.Prefix.{PutsPrefix, PutsTextBefore}
 use Rattle.wasmprinter_c.specs.Over.{over}
@@ -46,18 +43,13 @@ detail_in Memory = 0
 abbrev pub IsCopied : List ℕ → Type 0
 IsCopied indent = ¬ (indent ≡ defaults.indent)
 
--- The text of the module is longer than the limit.
-pub record IsTooLong (o : Options) (bytes : List ℕ) (limit : ℕ) : Type 0 where
-  -- The module that the bytes encode.
-  pub decoded : Decoded bytes
-  -- The answers to the claims of its custom sections.
-  pub answers : Answers
-  -- The text of its layout has more bytes than the limit.
-  pub long : limit < length (text_of (layout (with_color o false) answers decoded.placed))
+-- A prefix of the module's text is longer than the limit. Its calls claim no custom section.
+abbrev pub IsTooLong : Options → List ℕ → ℕ → Type 0
+IsTooLong o bytes limit = PutsPrefix o bytes (λ text. limit < length text)
 
--- If the bytes encode a module, the error has one of the causes of `HasListedCause`. The printer fails only if the text
--- is longer than the limit. No section is claimed, so the error names the first section that is refused. An allocation may also fail
--- for a copy of the indent.
+-- If the bytes encode a module, the error has one of the causes of `HasListedCause`. The printer fails only if a prefix
+-- of the text is longer than the limit. No section is claimed, so the error names the first section that is refused.
+-- An allocation may also fail for a copy of the indent.
 abbrev pub HasBufferCause : Options → List ℕ → ℕ → Error → Type 0
 HasBufferCause o bytes limit e =
     (placed : PlacedModule) → Spells bytes placed →
@@ -76,16 +68,22 @@ pub record IsBufferRefusal (o : Options) (bytes : List ℕ) (limit : ℕ) (e : E
 abbrev pub IsTrueOrUncopied : Options → List ℕ → Error → Type 0
 IsTrueOrUncopied o bytes e = IsSoundRefusal o bytes e ⊎ ((e ≡ Memory) × IsCopied o.indent)
 
--- The contents of the buffer after an error. Of a text that is longer than the buffer, it has the first bytes.
-abbrev pub LeavesBuffer : Options → List ℕ → Error → List ℕ → List ℕ → Type 0
+-- This text is not longer than the limit, and was written over the contents of the buffer: its first bytes, as many as
+-- fit.
+abbrev pub IsWritten : ℕ → List ℕ → List ℕ → List ℕ → Type 0
+IsWritten limit old new text = (new ≡ over text old) × (length text ≤ limit)
+
+-- The contents of the buffer after an error. The order is: options, bytes of the module, limit, error, contents before,
+-- contents after.
+abbrev pub LeavesBuffer : Options → List ℕ → ℕ → Error → List ℕ → List ℕ → Type 0
 -- After an unknown subsection of a `dylink.0` section: the text before that section.
-LeavesBuffer o bytes (DylinkSubsection id) old new = PutsTextBefore id o bytes (λ text. new ≡ over text old)
+LeavesBuffer o bytes limit (DylinkSubsection id) old new = PutsTextBefore id o bytes (IsWritten limit old new)
 -- If the text is longer than the limit: a prefix of the text.
-LeavesBuffer o bytes (Printer e) old new = PutsPrefix o bytes (λ text. new ≡ over text old)
+LeavesBuffer o bytes limit (Printer e) old new = PutsPrefix o bytes (IsWritten limit old new)
 -- If an allocation failed: the buffer is unchanged or, only if operators are folded, has a prefix of the text.
-LeavesBuffer o bytes Memory old new = (new ≡ old) ⊎ ((o.folds ≡ true) × PutsPrefix o bytes (λ text. new ≡ over text old))
+LeavesBuffer o bytes limit Memory old new = (new ≡ old) ⊎ ((o.folds ≡ true) × PutsPrefix o bytes (IsWritten limit old new))
 -- After any other error: the buffer is unchanged.
-LeavesBuffer o bytes e old new = new ≡ old
+LeavesBuffer o bytes limit e old new = new ≡ old
 
 -- The module was refused with this outcome.
 pub record IsRefusedWith (r : Request) (bytes : List ℕ) (b : Buffers) (outcome : Outcome) : Type 0 where
@@ -100,7 +98,7 @@ pub record IsRefusedWith (r : Request) (bytes : List ℕ) (b : Buffers) (outcome
   -- If the bytes encode a module, it has one of the causes of `HasBufferCause`.
   pub caused : HasBufferCause r.options bytes r.limit error
   -- The buffer has the contents that the error leaves.
-  pub left : LeavesBuffer r.options bytes error b.old b.new
+  pub left : LeavesBuffer r.options bytes r.limit error b.old b.new
   -- The length of the text is given as 0.
   pub uncounted : outcome.length ≡ 0
   -- The number of events is given as 0.

@@ -144,7 +144,7 @@ fn print_to(
         (buffers copier.old.out.now copier.new.out.now copier.old.table.now copier.new.table.now)
         copier.new.written copier.new.count) }
     ensures refused { IfErr result (IsBufferRefusal config.now wasm.now copier.old.limit) }
-    ensures left { IfErr result (λ e. LeavesBuffer config.now wasm.now e copier.old.out.now copier.new.out.now) }
+    ensures left { IfErr result (λ e. LeavesBuffer config.now wasm.now copier.old.limit e copier.old.out.now copier.new.out.now) }
     ensures component { IsErrOf result Error.Component ↔ IsComponent wasm.now }
 {
     config.print(alloc, wasm, copier)
@@ -164,7 +164,7 @@ fn print_over(
     ensures printed { IfOk result (λ x.
         HasEventsOver (request config.now all_events limit) wasm.now (buffers out.old out.new table.old table.new) x.length x.count) }
     ensures refused { IfErr result (IsBufferRefusal config.now wasm.now limit) }
-    ensures left { IfErr result (λ e. LeavesBuffer config.now wasm.now e out.old out.new) }
+    ensures left { IfErr result (λ e. LeavesBuffer config.now wasm.now limit e out.old out.new) }
     ensures component { IsErrOf result Error.Component ↔ IsComponent wasm.now }
 {
     let mut copier = Copier::new(all_events, limit, out, table);
