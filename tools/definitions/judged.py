@@ -79,9 +79,9 @@ def wasm2wat_judgement(case):
     if CODE_ANNOTATION.search(case.text):
         return "fault of wasm2wat: it writes the annotation of an operator as a group of its own"
     if EMPTY_ELSE.search(shown(case.data)):
-        return "documented: an `else` without operators is told from none; wasm2wat leaves it out"
+        return "documented: an `else` without operators has another meaning here than none; wasm2wat leaves it out"
     if has_functions_as_items(fields):
-        return "documented: a list of functions is told from expressions of the type `(ref func)`; wasm2wat writes a list"
+        return "documented: a list of functions has another meaning here than expressions of the type `(ref func)`; wasm2wat writes a list"
     return ""
 
 
