@@ -55,7 +55,7 @@ def of_checks(tree):
         ("(?:, |for )# names", names_of_refusals(tree)),
         (r"# shapes of modules \|", shapes),
         ("all # shapes", shapes),
-        ("0 to # bytes", tree.first(r"TEXT_LENGTHS: .*\[\(0, (\d+)\)", "crates/printwasm/src/io_tests.rt")),
+        ("0 to # bytes", tree.first(r"TEXT_LENGTHS: .*\[\(0, (\d+)\)", "crates/printwasm/src/source_sink_tests.rt")),
         ("an indent of # bytes fail", len(tree.first('^#define INDENT "( *)"', "bindings/c/memory.c"))),
     ]
 

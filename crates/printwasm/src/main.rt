@@ -5,12 +5,12 @@
 #[cfg(test)]
 mod error_line_tests;
 mod error_lines;
-#[cfg(test)]
-mod io_tests;
 mod program;
 #[cfg(test)]
 mod program_tests;
 mod sink;
+#[cfg(test)]
+mod source_sink_tests;
 
 use error_lines::ByDisplay;
 use program::launch;

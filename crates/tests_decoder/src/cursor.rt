@@ -4,7 +4,7 @@
 use std::test::Fail;
 use wasmprinter_bytes::Malformed;
 use wasmprinter_bytes::cursor::Cursor;
-use wasmprinter_bytes::items::read_items;
+use wasmprinter_bytes::lazy_items::read_items;
 
 /// An expected number or sum, or the place of an error. The variant names the method that reads it.
 #[derive(Clone, Copy)]

@@ -6,7 +6,7 @@ mod opcodes;
 use std::alloc::{AllocError, Global};
 use std::test::Fail;
 use wasmprinter_bytes::cursor::Cursor;
-use wasmprinter_bytes::items::Items;
+use wasmprinter_bytes::lazy_items::Items;
 use wasmprinter_bytes::lists::Decode;
 use wasmprinter_bytes::{Error, Malformed};
 use wasmprinter_ops::blocks::{BlockType, Catch};

@@ -3,7 +3,7 @@
 #![tactic(auto)]
 
 pub mod cursor;
-pub mod items;
+pub mod lazy_items;
 mod library_error;
 pub mod lists;
 mod malformed;

@@ -10,7 +10,7 @@ use crate::encoded_lists::{ItemsIn, ReadFrom};
 use std::marker::Model;
 use wasmprinter_bytes::Malformed;
 use wasmprinter_bytes::cursor::Cursor;
-use wasmprinter_bytes::items::{Items, no_items, read_items};
+use wasmprinter_bytes::lazy_items::{Items, no_items, read_items};
 use wasmprinter_bytes::lists::Decode;
 
 /// The name of sections with branch hints. If there are several, the last one counts.

@@ -19,7 +19,7 @@ mod names;
 mod position_guesses;
 mod producers;
 mod search;
-mod sorted_names;
+mod sorted_names_builder;
 mod space;
 mod symbol_flags;
 mod treatment;

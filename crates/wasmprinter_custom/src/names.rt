@@ -14,7 +14,7 @@ use crate::name_subsection_ids;
 use crate::named_subsections::{SUBSECTIONS, marks_of};
 use crate::position_guesses::Guesses;
 use crate::search::find;
-use crate::sorted_names::SortedNames;
+use crate::sorted_names_builder::SortedNames;
 use crate::space::Space;
 use std::alloc::{AllocError, Global};
 use std::collections::BTreeSet;

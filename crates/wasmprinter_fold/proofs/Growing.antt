@@ -20,7 +20,7 @@ use Rattle.wasmprinter_fold.proofs.Maps.{step-map}
 use Rattle.wasmprinter_fold.proofs.AllHeads.{all_step, AllState-weaker, map_state-same}
 use Rattle.wasmprinter_fold.specs.Shown.{ShownNode, shown_of_head, IsIn, AreIn}
 use Rattle.wasmprinter_fold.specs.Buffers.{GrowsText}
-use Rattle.wasmprinter_fold.specs.declared.tree.GrowingTree.{GrowingTree}
+use Rattle.wasmprinter_fold.specs.declared.growing_tree.GrowingTree.{GrowingTree}
 use Rattle.wasmprinter_fold.specs.Growing.{ShowsIn, GrowsByStep, shown_step}
 use Rattle.wasmprinter_fold.proofs.NodeTexts.{in_grown, shown_grown}
 

@@ -16,7 +16,7 @@ use Rattle.wasmprinter_fold.specs.Frames.{State, Represents}
 use Rattle.wasmprinter_fold.specs.Mapping.{map_nodes}
 use Rattle.wasmprinter_fold.specs.Postorder.{IsPostorder, forest_of}
 use Rattle.wasmprinter_fold.specs.Shown.{ShownNode, shown_of_head, AreIn, row_pieces}
-use Rattle.wasmprinter_fold.specs.declared.tree.GrowingTree.{GrowingTree}
+use Rattle.wasmprinter_fold.specs.declared.growing_tree.GrowingTree.{GrowingTree}
 use Rattle.wasmprinter_fold.specs.Growing.{IsGrown}
 use Rattle.wasmprinter_fold.specs.Views.{FolderView, folding_view}
 use Rattle.wasmprinter_fold.proofs.Growing.{whole}

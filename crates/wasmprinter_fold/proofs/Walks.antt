@@ -28,7 +28,7 @@ use Rattle.wasmprinter_fold.specs.Building.{Top, StateOf, Step, start, state_at,
 use Rattle.wasmprinter_fold.specs.Mapping.{map_nodes}
 use Rattle.wasmprinter_fold.proofs.Runs.{run-tree}
 use Rattle.wasmprinter_fold.specs.Shown.{ShownNode, shown_head, row_pieces}
-use Rattle.wasmprinter_fold.specs.declared.tree.GrowingTree.{GrowingTree}
+use Rattle.wasmprinter_fold.specs.declared.growing_tree.GrowingTree.{GrowingTree}
 use Rattle.wasmprinter_fold.specs.Growing.{Shows, GrowsByStep, shown_step, shown_operator, shown_keyword, operator_step, IsGrown}
 use Rattle.wasmprinter_fold.proofs.RowLaws.{rows_shown}
 

@@ -19,7 +19,7 @@ use Rattle.wasmprinter_fold.specs.Mapping.{map_nodes, map_state}
 use Rattle.wasmprinter_fold.specs.Frames.{State, Represents}
 use Rattle.wasmprinter_fold.specs.Heads.{AllState}
 use Rattle.wasmprinter_fold.specs.Shown.{ShownNode, shown_of_calls, shown_head, shown_of_head, IsIn}
-use Rattle.wasmprinter_fold.specs.declared.tree.GrowingTree.{GrowingTree}
+use Rattle.wasmprinter_fold.specs.declared.growing_tree.GrowingTree.{GrowingTree}
 
 -- The builder has open blocks and nodes whose texts are in the buffer, and `s` has the printed texts of these
 -- nodes.

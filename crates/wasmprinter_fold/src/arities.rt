@@ -7,14 +7,14 @@ ghost use Rattle.wasmprinter_fold.specs.Counted.{counts_view};
 pub mod block_types;
 pub mod callee_types;
 pub mod counts;
-mod counts_by_arity;
 pub mod label_arities;
 mod named;
+mod resolve_arity;
 
 use crate::arities::callee_types::CalleeTypes;
 use crate::arities::counts::{Counts, NOTHING};
-use crate::arities::counts_by_arity::counts_by_arity;
 use crate::arities::label_arities::LabelCounts;
+use crate::arities::resolve_arity::counts_by_arity;
 use wasmprinter_ops::opcode::Listed;
 use wasmprinter_ops::operator::Operator;
 

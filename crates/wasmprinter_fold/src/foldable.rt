@@ -3,7 +3,7 @@
 
 mod check;
 mod hints;
+mod item_expressions;
 mod legacy;
-mod lists;
 
 pub use check::check_folding;

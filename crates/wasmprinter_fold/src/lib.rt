@@ -9,10 +9,10 @@
 #![tactic(auto)]
 
 mod arities;
+mod fold_printer;
 pub mod foldable;
-mod folder;
+mod growing_tree;
 mod node_text;
 mod nodes;
-mod tree;
 
-pub use folder::Folder;
+pub use fold_printer::Folder;

@@ -24,8 +24,8 @@ FoldsByOwnArities =
     o.folds ≡ true → layout o answers m ≡ layout_folded (record { color = o.color; signatures = signatures_within m }) o answers m
 
 -- Folded in any way or flat, the text of a module reads as that module after the escape sequences are deleted. (As
--- in the reading law, no table has an empty initialiser, and no `dylink.0` section is refused. No operator of
--- legacy exception handling is printed.)
+-- in the reading law, no table has an empty initialiser, and no `dylink.0` section is refused. No `try`, `catch`,
+-- `catch_all` or `delegate` is printed.)
 abbrev pub FoldedAnyhowReadsAsFlat : Type 0
 FoldedAnyhowReadsAsFlat =
     (bytes : List ℕ) (m : PlacedModule) (o : Options) (answers : Answers) (folding : Folding) →

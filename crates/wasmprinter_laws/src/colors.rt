@@ -55,7 +55,7 @@ pub fn folded_text_is_by_own_arities()
 ///
 /// The module is as in the reading law: every index that it uses is declared, and no table has an empty
 /// initialiser. The text is not a skeleton, its indent consists of spaces and tabs, and the printer claims no
-/// custom section. No operator of legacy exception handling is printed, and no `dylink.0` section is refused.
+/// custom section. No `try`, `catch`, `catch_all` or `delegate` is printed, and no `dylink.0` section is refused.
 pub fn folded_text_reads_as_flat_by_any_arities()
     ensures { FoldedAnyhowReadsAsFlat }
 {}

@@ -20,7 +20,7 @@ pub fn trees_say_their_lists()
     ensures unique { TreesAreUnique }
 {}
 
-/// Operators have a tree exactly if they are well nested and none belongs to legacy exception handling.
+/// Operators have a tree exactly if they are well nested and none is `try`, `catch`, `catch_all` or `delegate`.
 pub fn nested_operators_have_trees()
     ensures nested { NestedOperatorsHaveTrees }
     ensures only { TreesAreNested }

@@ -14,7 +14,7 @@ use crate::val_types::{First, ValType, ValTypes, read_types};
 use std::marker::Model;
 use wasmprinter_bytes::Malformed;
 use wasmprinter_bytes::cursor::Cursor;
-use wasmprinter_bytes::items::{Items, no_items, read_items};
+use wasmprinter_bytes::lazy_items::{Items, no_items, read_items};
 use wasmprinter_bytes::lists::{Decode, DecodeIn};
 
 /// The byte before the field type of an array type.

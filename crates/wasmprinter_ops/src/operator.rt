@@ -18,7 +18,7 @@ use std::alloc::AllocError;
 use std::marker::Model;
 use wasmprinter_bytes::Malformed;
 use wasmprinter_bytes::cursor::Cursor;
-use wasmprinter_bytes::items::read_items;
+use wasmprinter_bytes::lazy_items::read_items;
 
 /// The immediates after an opcode, in the order of the bytes (section 5.4).
 #[derive(Debug, PartialEq, Drop)]

@@ -14,7 +14,7 @@ use crate::fields::Field;
 use crate::module_scope::{
     Scope, write_declaration_in, write_index_group_in, write_index_in, write_ref_type_in,
 };
-use wasmprinter_bytes::items::Items;
+use wasmprinter_bytes::lazy_items::Items;
 use wasmprinter_custom::Space;
 use wasmprinter_ops::expression::Expression;
 use wasmprinter_print::{FoldingOutput, Output};

@@ -15,7 +15,7 @@ use crate::byte_checks::expect_end;
 use std::alloc::Global;
 use std::marker::Model;
 use wasmprinter_bytes::cursor::Cursor;
-use wasmprinter_bytes::items::{Items, read_items};
+use wasmprinter_bytes::lazy_items::{Items, read_items};
 use wasmprinter_bytes::lists::Decode;
 use wasmprinter_bytes::{Error, Malformed};
 use wasmprinter_ops::expression::{Expression, OperatorsReader};

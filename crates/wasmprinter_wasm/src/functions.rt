@@ -8,7 +8,7 @@ use crate::byte_checks::expect_end;
 use std::alloc::Global;
 use wasmprinter_bytes::Error;
 use wasmprinter_bytes::cursor::Cursor;
-use wasmprinter_bytes::items::read_items;
+use wasmprinter_bytes::lazy_items::read_items;
 
 /// The greatest number of functions that a module may define.
 const MOST_FUNCTIONS: u32 = 1_000_000;

@@ -4,6 +4,7 @@
 
 mod byte_checks;
 mod code;
+mod collect_names;
 pub mod custom_placement;
 pub mod customs;
 mod data_segments;
@@ -20,7 +21,6 @@ mod imports;
 mod limits;
 mod memories;
 mod module;
-mod module_names;
 mod sections;
 mod start;
 mod table_types;

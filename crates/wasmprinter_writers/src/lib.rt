@@ -4,12 +4,12 @@
 
 mod ansi;
 mod color_spec;
+mod contents_laws;
 mod io_write;
 mod line_iterator;
 mod line_tracker;
 mod no_color;
 mod no_line_lost;
-mod output_laws;
 mod termcolor;
 mod terminal_colors;
 mod write_bytes;
@@ -17,12 +17,12 @@ mod write_color;
 
 pub use ansi::Ansi;
 pub use color_spec::ColorSpec;
+pub use contents_laws::{ansi_gains_colored_text, io_write_gains_text, no_color_gains_text};
 pub use io_write::PrintIoWrite;
 pub use line_iterator::{LineStart, OffsetsAndLines};
 pub use line_tracker::LineTracker;
 pub use no_color::NoColor;
 pub use no_line_lost::no_line_is_lost;
-pub use output_laws::{ansi_gains_colored_text, io_write_gains_text, no_color_gains_text};
 pub use termcolor::PrintTermcolor;
 pub use terminal_colors::Color;
 pub use write_bytes::WriteBytes;

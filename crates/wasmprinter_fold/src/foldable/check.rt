@@ -7,7 +7,7 @@ ghost use Rattle.wasmprinter_spec.specs.Folding.Refusals.{legacy_places_in, lega
 ghost use Rattle.wasmprinter_fold.specs.Refused.{error_of_first, HasFoldReason};
 
 use crate::foldable::hints::check_hints;
-use crate::foldable::lists::{check_bodies, check_each};
+use crate::foldable::item_expressions::{check_bodies, check_each};
 use wasmprinter_bytes::Error;
 use wasmprinter_print::PrintOptions;
 use wasmprinter_wasm::{Fields, Module};

@@ -42,7 +42,7 @@ flat (IfElse x body turn other end rest) = x ∷ (flat body ++ turn ∷ (flat ot
 abbrev pub role : Item → Role
 role x = role_of x.operator.value.opcode
 
--- The roles of legacy exception handling.
+-- The roles of legacy operators: `try`, `catch`, `catch_all` and `delegate`.
 abbrev pub is_try : Role → Bool
 is_try OpensTry = true
 is_try Catches = true
@@ -50,7 +50,7 @@ is_try CatchesAll = true
 is_try Delegates = true
 is_try _ = false
 
--- No role is one of legacy exception handling.
+-- No role is one of a legacy operator.
 abbrev pub AreWithoutTry : List Role → Type 0
 AreWithoutTry rs = AllByRecursion (λ r. is_try r ≡ false) rs
 
@@ -71,8 +71,7 @@ with_code f (InBlock code end after) = InBlock (f code) end after
 with_code f (InIf code turn other end after) = InIf (f code) turn other end after
 
 -- One more operator before the code. An `end` closes a block whose start is still to come, an `else` is in such a
--- block, and an operator that opens a block takes the code up to the `end`. Operators of legacy exception handling
--- have no tree.
+-- block, and an operator that opens a block takes the code up to the `end`. Legacy operators have no tree.
 abbrev pub in_front : Role → Item → After → Option After
 in_front row.Plain x after = Some (with_code (Plain x) after)
 in_front Ends x after = Some (InBlock Done x after)
@@ -92,8 +91,7 @@ abbrev pub whole : After → Option NestedCode
 whole (Outside code) = Some code
 whole _ = None
 
--- The tree of a list of operators. None if they are not well nested or if there is legacy exception handling among
--- them.
+-- The tree of a list of operators. None if they are not well nested or if one is a legacy operator.
 abbrev pub nested_code_of : List Item → Option NestedCode
 nested_code_of xs = after_of xs >>= whole
 
@@ -117,12 +115,12 @@ TreesRepresentLists = (xs : List Item) (code : NestedCode) → nested_code_of xs
 abbrev pub TreesAreUnique : Type 0
 TreesAreUnique = (code : NestedCode) → IsFit code → nested_code_of (flat code) ≡ Some code
 
--- Operators that are well nested and without legacy exception handling have a tree.
+-- Operators that are well nested and without legacy operators have a tree.
 abbrev pub NestedOperatorsHaveTrees : Type 0
 NestedOperatorsHaveTrees =
     (xs : List Item) → Nests Sequence (map role xs) → AreWithoutTry (map role xs) → (code : NestedCode) × (nested_code_of xs ≡ Some code)
 
--- Operators that have a tree are well nested and without legacy exception handling.
+-- Operators that have a tree are well nested and without legacy operators.
 abbrev pub TreesAreNested : Type 0
 TreesAreNested =
     (xs : List Item) (code : NestedCode) → nested_code_of xs ≡ Some code → Nests Sequence (map role xs) × AreWithoutTry (map role xs)

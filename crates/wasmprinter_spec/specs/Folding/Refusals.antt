@@ -1,5 +1,6 @@
--- What cannot be folded in a module: operators of legacy exception handling, and branch hints on operators whose
--- node can't hold a hint. The standard does not define this: the rules are this printer's own.
+-- What cannot be folded in a module: `try`, `catch`, `catch_all` and `delegate`, and branch hints on operators whose
+-- node can't hold a hint. The standard does not define this: the rules are this printer's own. The first are called
+-- legacy operators here. `rethrow`, of the same proposal, opens and closes nothing, and can be folded.
 use Rattle.std.specs.Prelude.{◌≡◌, ℕ, ◌+◌, ◌-◌, List, [], ◌∷◌, ◌++◌, map, flat_map, Bool, true, false, cond, length, slice_get, Option, Some, None}
 use Rattle.wasmprinter_spec.specs.Grammar.{Placed}
 use Rattle.wasmprinter_spec.specs.Operator.{Operator}
@@ -56,18 +57,18 @@ lists_after_code m = flat_map data_lists m.data_segments
 abbrev pub printed_lists : Options → PlacedModule → List Operators
 printed_lists o m = lists_before_code o m ++ body_lists o m ++ lists_after_code m
 
--- ---- Operators of legacy exception handling
+-- ---- Legacy operators: `try`, `catch`, `catch_all`, `delegate`
 
--- The places of operators of legacy exception handling in a list.
+-- The places of legacy operators in a list.
 abbrev pub legacy_places_in : Operators → List ℕ
 legacy_places_in [] = []
 legacy_places_in (o ∷ os) = cond (is_try (role_of o.value.opcode)) (o.place ∷ legacy_places_in os) (legacy_places_in os)
 
--- The places of operators of legacy exception handling in all lists that are printed, in the order of the bytes.
+-- The places of legacy operators in all lists that are printed, in the order of the bytes.
 abbrev pub legacy_places : Options → PlacedModule → List ℕ
 legacy_places o m = flat_map legacy_places_in (printed_lists o m)
 
--- The first operator of legacy exception handling that is printed is at this place.
+-- The first legacy operator that is printed is at this place.
 abbrev pub IsFirstLegacy : Options → PlacedModule → ℕ → Type 0
 IsFirstLegacy o m place = slice_get (legacy_places o m) 0 ≡ Some place
 
@@ -106,15 +107,14 @@ misplaced_hints o m =
     cond o.skeleton []
     (misplaced_hints_from (hints_of m.customs) (length (imported_types func_import (without_places m.imports))) m.functions)
 
--- No operator of legacy exception handling is printed, and the first misplaced hint that is printed is at this place.
+-- No legacy operator is printed, and the first misplaced hint that is printed is at this place.
 -- The hints are in the order of the operators.
 abbrev pub IsFirstMisplaced : Options → PlacedModule → ℕ → Type 0
 IsFirstMisplaced o m place = (legacy_places o m ≡ []) × (slice_get (misplaced_hints o m) 0 ≡ Some place)
 
 -- ---- Modules
 
--- If operators are folded, none is one of legacy exception handling, and no hint is on an operator that cannot
--- have one.
+-- If operators are folded, none is a legacy operator, and no hint is on an operator that cannot have one.
 pub record IsFoldable (o : Options) (m : PlacedModule) : Type 0 where
   pub legacy : o.folds ≡ true → legacy_places o m ≡ []
   pub hints : o.folds ≡ true → misplaced_hints o m ≡ []

@@ -1,5 +1,0 @@
-use Rattle.wasmprinter_writers.proofs.Runs.{text_run}
-use Rattle.wasmprinter_writers.proofs.output_laws.io_write_gains_text.Goals as goal
-
-pub returns : goal.returns
-returns g c = text_run (λ p. g.W.Write.contents p.0)
