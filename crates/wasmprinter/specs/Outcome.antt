@@ -59,7 +59,7 @@ pub record PrintReasons : Type 1 where
   pub failed : IoError → Type 0
   -- A `dylink.0` section is refused for a subsection with this id.
   pub unknown : ℕ → Type 0
-  -- At this place is an operator of legacy exception handling, which can't be folded.
+  -- At this place is `try`, `catch`, `catch_all` or `delegate`, which can't be folded.
   pub legacy : ℕ → Type 0
   -- At this place is a branch hint that can't be folded.
   pub hint : ℕ → Type 0
@@ -79,12 +79,11 @@ HasPrintReason printing reasons Unreadable = ⊥
 HasPrintReason printing reasons (Printer e) = printing.failed e
 HasPrintReason printing reasons Memory = reasons.memory
 
--- Operators are folded, and at this place is the first operator of legacy exception handling in the lists of operators
--- that are printed.
+-- Operators are folded, and at this place is the first legacy operator in the lists of operators that are printed.
 abbrev pub IsLegacyAt : Options → PlacedModule → ℕ → Type 0
 IsLegacyAt o m place = (o.folds ≡ true) × IsFirstLegacy o m place
 
--- Operators are folded, none of legacy exception handling is printed, and at this place of the bytes is the first
+-- Operators are folded, no legacy operator is printed, and at this place of the bytes is the first
 -- branch hint on an operator that can't have one, in the bodies that are printed.
 abbrev pub IsMisplacedAt : Options → PlacedModule → ℕ → Type 0
 IsMisplacedAt o m place = (o.folds ≡ true) × IsFirstMisplaced o m place

@@ -125,8 +125,8 @@ impl Config {
     /// - `Malformed`: the bytes are not in the binary format.
     /// - `TooManyLocals`, `TooManyFunctions`: the module exceeds a limit of this printer.
     /// - `EmptyTableInit`: the initialiser of a table has no operators.
-    /// - `FoldLegacy`, `FoldHint`, only if operators are folded: an operator of legacy exception handling or a
-    ///   branch hint can't be folded.
+    /// - `FoldLegacy`, only if operators are folded: a `try`, `catch`, `catch_all` or `delegate` can't be folded.
+    /// - `FoldHint`, only if operators are folded: a branch hint can't be folded.
     /// - `Memory`: an allocation failed during decoding or while the names were collected.
     ///
     /// The printer receives a prefix of the text before these errors:

@@ -252,7 +252,7 @@ fn print_by(
 /// - 3: a function has more than 50,000 locals. The detail is the place of its body.
 /// - 4: the module has more than 1,000,000 functions. The detail is their number.
 /// - 5: the initialiser of a table has no operators. The detail is the place of the table.
-/// - 6, only if operators are folded: an operator of legacy exception handling can't be folded. The detail is its
+/// - 6, only if operators are folded: a `try`, `catch`, `catch_all` or `delegate` can't be folded. The detail is its
 ///   place.
 /// - 7, only if operators are folded: folded text has nowhere to put a branch hint. The detail is the place of the
 ///   hint.

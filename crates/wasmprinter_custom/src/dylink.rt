@@ -362,7 +362,8 @@ pub(crate) enum DylinkContents<'a> {
 }
 
 impl<'a> DylinkContents<'a> {
-    /// Checks the content of a section after its name.
+    /// Reads the content of a section after its name, and returns whether it is well formed: its subsections, the first
+    /// unknown id, or that there is an error before any unknown id.
     pub(crate) fn of(section: Cursor<'a>) -> Self
         ensures { judgement_view result ≡ judgement_of section.entry }
     {

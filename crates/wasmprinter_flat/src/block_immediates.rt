@@ -176,7 +176,8 @@ pub(crate) fn write_catches<O: Output, S: Signatures>(
     }
 }
 
-/// Writes the immediates of an operator that opens a block: its label, its type, and the label's comment.
+/// Writes the immediates of an operator that opens a block: its label, its type, and the label's comment, with a
+/// space before each.
 pub(crate) fn write_block<O: Output, S: Signatures>(
     out: &mut O,
     context: &Context<'_, '_, '_, '_, S>,
@@ -194,7 +195,8 @@ pub(crate) fn write_block<O: Output, S: Signatures>(
     write_ending(out, context.setting.form, own, context.block());
 }
 
-/// Writes the immediates of a `try_table`: its label, its type, its catch clauses, and the label's comment.
+/// Writes the immediates of a `try_table`: its label, its type, its catch clauses, and the label's comment, with a
+/// space before each.
 pub(crate) fn write_try_table<O: Output, S: Signatures>(
     out: &mut O,
     context: &Context<'_, '_, '_, '_, S>,

@@ -28,7 +28,7 @@ use wasmprinter_print::Output;
 use wasmprinter_text::numbers::write_signed;
 use wasmprinter_text::signature::Signatures;
 
-/// Writes an index by its shape: a label, or an index into another space.
+/// Writes a space and an index by its shape: a label, or an index into another space.
 #[tactic(auto, unfolding(wasmprinter_spec::specs::Layout::Operators::immediate_pieces, wasmprinter_spec::specs::Layout::Operators::operand_pieces))]
 fn write_index_by_shape<O: Output, S: Signatures>(
     out: &mut O,
@@ -50,7 +50,7 @@ fn write_index_by_shape<O: Output, S: Signatures>(
     }
 }
 
-/// Writes two indices, or an index and a number, by their shape.
+/// Writes two indices, or an index and a number, by their shape, with a space before each.
 fn write_indices_by_shape<O: Output, S: Signatures>(
     out: &mut O,
     context: &Context<'_, '_, '_, '_, S>,
@@ -75,7 +75,7 @@ fn write_indices_by_shape<O: Output, S: Signatures>(
     }
 }
 
-/// Writes a heap type by its shape: as a heap type, or as the type of references to it.
+/// Writes a space and a heap type by its shape: as a heap type, or as the type of references to it.
 fn write_heap_by_shape<O: Output, S: Signatures>(
     out: &mut O,
     context: &Context<'_, '_, '_, '_, S>,
@@ -94,7 +94,7 @@ fn write_heap_by_shape<O: Output, S: Signatures>(
     }
 }
 
-/// Writes sixteen bytes by their shape: as a vector, or as lanes.
+/// Writes sixteen bytes by their shape: as a vector, or as lanes, with a space before each number.
 fn write_bytes_by_shape<O: Output>(out: &mut O, shape: Shape, bytes: &[u8])
     requires { HasShape (shape_view shape) (Bytes bytes.now) }
     ensures { (s : layout.Setting) (inner xs : List Label) (own : Label) →
@@ -108,7 +108,7 @@ fn write_bytes_by_shape<O: Output>(out: &mut O, shape: Shape, bytes: &[u8])
     }
 }
 
-/// Writes a memory operand by its shape, which gives the natural alignment.
+/// Writes a memory operand by its shape, which gives the natural alignment, with a space before each part.
 fn write_memory_by_shape<O: Output, S: Signatures>(
     out: &mut O,
     context: &Context<'_, '_, '_, '_, S>,
@@ -125,7 +125,7 @@ fn write_memory_by_shape<O: Output, S: Signatures>(
     write_mem_arg(out, context, natural, operand);
 }
 
-/// Writes a memory operand and a lane by their shape.
+/// Writes a memory operand and a lane by their shape, with a space before each part.
 fn write_memory_lane_by_shape<O: Output, S: Signatures>(
     out: &mut O,
     context: &Context<'_, '_, '_, '_, S>,
@@ -144,7 +144,7 @@ fn write_memory_lane_by_shape<O: Output, S: Signatures>(
     write_lane(out, lane);
 }
 
-/// Writes immediates by their shape.
+/// Writes immediates by their shape, with a space before each.
 pub(crate) fn write_immediates_by_shape<O: Output, S: Signatures>(
     out: &mut O,
     context: &Context<'_, '_, '_, '_, S>,

@@ -18,7 +18,7 @@ use wasmprinter_text::numbers::write_number_word;
 use wasmprinter_text::signature::{Signatures, write_type_index};
 use wasmprinter_text::words::write_space;
 
-/// Writes an index, by its identifier if it has one.
+/// Writes a space and an index, by its identifier if it has one.
 pub(crate) fn write_operand<O: Output, S: Signatures>(
     out: &mut O,
     context: &Context<'_, '_, '_, '_, S>,
@@ -32,7 +32,7 @@ pub(crate) fn write_operand<O: Output, S: Signatures>(
     write_index(out, context.identifier(space, index), u64::from(index));
 }
 
-/// Writes an index. Writes nothing for index 0.
+/// Writes a space and an index. Writes nothing for index 0.
 #[tactic(auto, unfolding(wasmprinter_spec::specs::Layout::Operators::default_index_pieces))]
 pub(crate) fn write_default_index<O: Output, S: Signatures>(
     out: &mut O,
@@ -48,7 +48,7 @@ pub(crate) fn write_default_index<O: Output, S: Signatures>(
     }
 }
 
-/// Writes two indices, one into each of two spaces.
+/// Writes two indices, one into each of two index spaces, with a space before each.
 pub(crate) fn write_index_pair<O: Output, S: Signatures>(
     out: &mut O,
     context: &Context<'_, '_, '_, '_, S>,
@@ -63,7 +63,7 @@ pub(crate) fn write_index_pair<O: Output, S: Signatures>(
     write_operand(out, context, spaces.1, second);
 }
 
-/// Writes a field of a structure type, by its identifier if it has one.
+/// Writes a space and a field of a structure type, by its identifier if it has one.
 fn write_field_index<O: Output, S: Signatures>(
     out: &mut O,
     context: &Context<'_, '_, '_, '_, S>,
@@ -77,7 +77,7 @@ fn write_field_index<O: Output, S: Signatures>(
     write_index(out, context.field(type_index, field), u64::from(field));
 }
 
-/// Writes the index of a structure type and the index of one of its fields.
+/// Writes the index of a structure type and the index of one of its fields, with a space before each.
 pub(crate) fn write_field<O: Output, S: Signatures>(
     out: &mut O,
     context: &Context<'_, '_, '_, '_, S>,
@@ -91,7 +91,7 @@ pub(crate) fn write_field<O: Output, S: Signatures>(
     write_field_index(out, context, type_index, field);
 }
 
-/// Writes a number that is not an index: in decimal, without a style.
+/// Writes a space and a number that is not an index: in decimal, without a style.
 #[tactic(auto, unfolding(wasmprinter_spec::specs::Layout::Operators::lane_pieces))]
 pub(crate) fn write_count<O: Output>(out: &mut O, count: u32)
     ensures { O.wrote out.old out.new (lane_pieces count) }
@@ -100,7 +100,7 @@ pub(crate) fn write_count<O: Output>(out: &mut O, count: u32)
     write_number_word(out, u64::from(count));
 }
 
-/// Writes the index of an array type and the number of elements of the array.
+/// Writes the index of an array type and the number of elements of the array, with a space before each.
 pub(crate) fn write_index_and_count<O: Output, S: Signatures>(
     out: &mut O,
     context: &Context<'_, '_, '_, '_, S>,
@@ -114,7 +114,7 @@ pub(crate) fn write_index_and_count<O: Output, S: Signatures>(
     write_count(out, count);
 }
 
-/// Writes the immediates of an indirect call: its table, unless that is 0, and its type.
+/// Writes the immediates of an indirect call: its table, unless that is 0, and its type, with a space before each.
 pub(crate) fn write_call<O: Output, S: Signatures>(
     out: &mut O,
     context: &Context<'_, '_, '_, '_, S>,
@@ -129,8 +129,8 @@ pub(crate) fn write_call<O: Output, S: Signatures>(
     write_type_index(out, &context.identifiers(), type_index);
 }
 
-/// Writes the immediates of `memory.init` and `table.init`: the memory or table, left out if its index is 0, and then
-/// the segment.
+/// Writes the immediates of `memory.init` and `table.init`, with a space before each: the memory or table, left out if
+/// its index is 0, and then the segment.
 pub(crate) fn write_segment<O: Output, S: Signatures>(
     out: &mut O,
     context: &Context<'_, '_, '_, '_, S>,
@@ -146,7 +146,7 @@ pub(crate) fn write_segment<O: Output, S: Signatures>(
     write_operand(out, context, spaces.0, segment);
 }
 
-/// Writes the tables or memories that are copied to and from, unless both are 0.
+/// Writes the tables or memories that are copied to and from, with a space before each, unless both are 0.
 pub(crate) fn write_copy<O: Output, S: Signatures>(
     out: &mut O,
     context: &Context<'_, '_, '_, '_, S>,

@@ -32,7 +32,7 @@ fn write_by_name<O: Output>(out: &mut O, identifier: Identifier<'_>, label: u32)
     }
 }
 
-/// Writes the index of a label, with the number of its block in a comment.
+/// Writes a space and the index of a label, with the number of its block in a comment.
 fn write_around<O: Output>(out: &mut O, label: u64, block: u64)
     ensures { O.wrote out.old out.new
         (OneSpace ∷ (Number label ∷ (BlockComment true (codes "@" ++ decimal block) ∷ []))) }
@@ -42,7 +42,7 @@ fn write_around<O: Output>(out: &mut O, label: u64, block: u64)
     write_depth_comment(out, block);
 }
 
-/// Writes a number that does not refer to a label.
+/// Writes a space, a number that does not refer to a label, and a comment that says so.
 fn write_invalid<O: Output>(out: &mut O, label: u64)
     ensures { O.wrote out.old out.new
         (OneSpace ∷ (Word (decimal label) ∷ (BlockComment false (codes " INVALID ") ∷ []))) }
@@ -52,7 +52,7 @@ fn write_invalid<O: Output>(out: &mut O, label: u64)
     write_unstyled_comment(out, " INVALID ");
 }
 
-/// Writes a label.
+/// Writes a space and a label.
 pub(crate) fn write_label<O: Output, S: Signatures>(
     out: &mut O,
     context: &Context<'_, '_, '_, '_, S>,
@@ -69,7 +69,7 @@ pub(crate) fn write_label<O: Output, S: Signatures>(
     }
 }
 
-/// Writes the labels of a `br_table`, the default label last.
+/// Writes the labels of a `br_table`, the default label last, with a space before each.
 pub(crate) fn write_labels<O: Output, S: Signatures>(
     out: &mut O,
     context: &Context<'_, '_, '_, '_, S>,

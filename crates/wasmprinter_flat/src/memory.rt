@@ -22,7 +22,7 @@ fn write_numbered<O: Output>(out: &mut O, word: &str, n: u64)
     write_numbered_word(out, word, n);
 }
 
-/// Writes an offset. Writes nothing for offset 0.
+/// Writes a space and an offset. Writes nothing for offset 0.
 #[tactic(auto, unfolding(wasmprinter_spec::specs::Layout::Operators::offset_pieces))]
 fn write_offset<O: Output>(out: &mut O, offset: u64)
     ensures { O.wrote out.old out.new (offset_pieces offset) }
@@ -32,7 +32,7 @@ fn write_offset<O: Output>(out: &mut O, offset: u64)
     }
 }
 
-/// Writes an alignment, given its exponent. Writes nothing for the natural alignment.
+/// Writes a space and an alignment, given its exponent. Writes nothing for the natural alignment.
 #[tactic(auto, unfolding(wasmprinter_spec::specs::Layout::Operators::align_pieces))]
 fn write_align<O: Output>(out: &mut O, natural: u32, exponent: u32)
     requires { exponent < 64 }
@@ -43,7 +43,8 @@ fn write_align<O: Output>(out: &mut O, natural: u32, exponent: u32)
     }
 }
 
-/// Writes a memory operand. `natural` is the exponent of the operator's natural alignment.
+/// Writes a memory operand, with a space before each of its parts. `natural` is the exponent of the operator's natural
+/// alignment.
 #[tactic(auto, unfolding(wasmprinter_spec::specs::Layout::Operators::mem_arg_pieces))]
 pub(crate) fn write_mem_arg<O: Output, S: Signatures>(
     out: &mut O,

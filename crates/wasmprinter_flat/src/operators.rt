@@ -78,7 +78,8 @@ pub fn start_operator<O: Output>(
     }
 }
 
-/// Writes the word of an operator and its immediates. `labels` are those that are open before it.
+/// Writes the word of an operator and its immediates, with a space before each immediate. `labels` are those that are
+/// open before it.
 #[inline(never)]
 pub fn write_operator_word<O: Output, S: Signatures>(
     out: &mut O,

@@ -20,7 +20,7 @@ use wasmprinter_text::signature::Signatures;
 use wasmprinter_text::types::{write_heap_type, write_ref_type, write_type_group, write_val_type};
 use wasmprinter_text::words::{open_group_space, write_close_paren, write_space};
 
-/// Writes one type as a result group.
+/// Writes a space and one type as a result group.
 #[tactic(auto, unfolding(wasmprinter_spec::specs::Layout::Groups::line_group_space))]
 pub(crate) fn write_result<O: Output>(
     out: &mut O,
@@ -47,7 +47,7 @@ fn only_type(types: &ValTypes<'_>) -> Option<ValType>
     }
 }
 
-/// Writes the types of a `select`.
+/// Writes a space and the types of a `select` as a group.
 pub(crate) fn write_select<O: Output>(
     out: &mut O,
     identifiers: &Identifiers<'_, '_>,
@@ -62,7 +62,7 @@ pub(crate) fn write_select<O: Output>(
     }
 }
 
-/// Writes a heap type.
+/// Writes a space and a heap type.
 pub(crate) fn write_heap<O: Output>(out: &mut O, identifiers: &Identifiers<'_, '_>, heap: HeapType)
     ensures { O.wrote out.old out.new
         (OneSpace ∷ heap_pieces (names_of_identifiers identifiers.now) (heap_view heap)) }
@@ -71,7 +71,7 @@ pub(crate) fn write_heap<O: Output>(out: &mut O, identifiers: &Identifiers<'_, '
     write_heap_type(out, identifiers, heap);
 }
 
-/// Writes a reference type.
+/// Writes a space and a reference type.
 pub(crate) fn write_ref<O: Output>(
     out: &mut O,
     identifiers: &Identifiers<'_, '_>,
@@ -84,7 +84,7 @@ pub(crate) fn write_ref<O: Output>(
     write_ref_type(out, identifiers, ref_type);
 }
 
-/// Writes two reference types.
+/// Writes two reference types, with a space before each.
 fn write_refs<O: Output>(
     out: &mut O,
     identifiers: &Identifiers<'_, '_>,
@@ -99,8 +99,8 @@ fn write_refs<O: Output>(
     write_ref(out, identifiers, target);
 }
 
-/// Writes the label, the source type and the target type of a cast. The flags of the cast say which types are
-/// nullable.
+/// Writes the label, the source type and the target type of a cast, with a space before each. The flags of
+/// the cast say which types are nullable.
 pub(crate) fn write_cast<O: Output, S: Signatures>(
     out: &mut O,
     context: &Context<'_, '_, '_, '_, S>,

@@ -64,7 +64,7 @@ fn write_hex_literals<O: Output>(out: &mut O, bytes: &[u8])
     out.reset_color();
 }
 
-/// Writes a vector from its bytes in little-endian order, as four 32-bit numbers.
+/// Writes a vector from its bytes in little-endian order: a word and four 32-bit numbers, with a space before each.
 #[tactic(auto, unfolding(wasmprinter_spec::specs::Layout::Operators::vector_pieces))]
 pub(crate) fn write_vector<O: Output>(out: &mut O, bytes: &[u8])
     ensures { O.wrote out.old out.new (vector_pieces bytes.now) }

@@ -65,8 +65,7 @@ abbrev pub run_all : {H : Type 0} → StateOf H → List (Step H) → StateOf H
 run_all s [] = s
 run_all s (t ∷ ts) = run_all (step s t) ts
 
--- The step of an operator, by its role. Operators of legacy exception handling, which are not folded, count as
--- `end`.
+-- The step of an operator, by its role. Legacy operators, which are not folded, count as `end`.
 abbrev pub step_of : {H : Type 0} → (Head → H) → Role → Item → Step H
 step_of f row.Plain x = Plain (f (Of x)) x.operands x.results
 step_of f row.Opens x = Opens (f (Of x)) x.results

@@ -60,8 +60,8 @@ impl<'m, 'a> Folder<'m, 'a> {
     ///
     /// The options of `out` must ask for folding.
     ///
-    /// Writes nothing if the list has an operator of legacy exception handling, which cannot be folded. If an
-    /// allocation fails, records in `out` that memory ran out.
+    /// Writes nothing if the list has a legacy operator (`try`, `catch`, `catch_all` or `delegate`), which cannot be
+    /// folded. If an allocation fails, records in `out` that memory ran out.
     pub fn write<O: FoldingOutput, S: Signatures>(
         &mut self,
         out: &mut O,
@@ -89,8 +89,8 @@ impl<'m, 'a> Folder<'m, 'a> {
             out.run_out_of_memory();
             return;
         };
-        // A module with an operator of legacy exception handling is refused before anything is printed,
-        // so every list that arrives here is folded.
+        // A module with a legacy operator is refused before anything is printed, so every list that arrives here
+        // is folded.
         if !folded {
             return;
         }

@@ -1,5 +1,5 @@
-//! Checks which modules can be folded: the printed parts must have no operators of legacy exception handling, and
-//! no branch hints on operators whose folded text can't hold them.
+//! Checks which modules can be folded: the printed parts must have no legacy operators (`try`, `catch`, `catch_all`,
+//! `delegate`), and no branch hints on operators whose folded text can't hold them.
 
 mod check;
 mod hints;

@@ -157,9 +157,9 @@ impl GrowingTree {
         self.builder.end()
     }
 
-    /// Adds an operator with these numbers of operands and results. `fold` stops at the first operator of legacy
-    /// exception handling, so this function never gets one; its `match` treats them like `end`. A hint before an `else`
-    /// or an `end` is dropped: a module with such a hint is refused before anything is printed.
+    /// Adds an operator with these numbers of operands and results. `fold` stops at the first `try`, `catch`,
+    /// `catch_all` or `delegate`, so this function never gets one; its `match` treats them like `end`. A hint before an
+    /// `else` or an `end` is dropped: a module with such a hint is refused before anything is printed.
     fn add<S: Signatures>(
         &mut self,
         setting: &Setting<'_, S>,
@@ -215,7 +215,7 @@ impl GrowingTree {
 
     /// Folds the operators of an expression. `own` is the number of results of the enclosing function: 0 in a constant
     /// expression, `None` if the function's type is unknown. Returns whether the operators are folded: they are not if
-    /// one of them belongs to legacy exception handling.
+    /// one of them is `try`, `catch`, `catch_all` or `delegate`.
     ///
     /// # Errors
     ///

@@ -55,7 +55,8 @@ BytesGiveEntries = (at : Input) (entries : List Entry) → AreBytes at.bytes →
 abbrev pub IdentifiersAreApart : Type 0
 IdentifiersAreApart = (synthesizes : Bool) (entries : List Entry) → AreEntries entries → AreApart (names_of synthesizes entries)
 
--- Each identifier is UTF-8 and not empty, and each name is UTF-8.
+-- If entries have indices of 32 bits and names in UTF-8, each identifier is UTF-8 and not empty, and each name is
+-- UTF-8.
 abbrev pub IdentifiersAreNamed : Type 0
 IdentifiersAreNamed = (synthesizes : Bool) (entries : List Entry) → AreEntries entries → AreNamed (names_of synthesizes entries)
 

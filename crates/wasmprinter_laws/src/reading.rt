@@ -128,12 +128,14 @@ pub fn name_sections_give_entries()
     ensures { BytesGiveEntries }
 {}
 
-/// An identifier means one item of its space, whether identifiers are synthesized for items without names or not.
+/// If entries have indices of 32 bits and names in UTF-8, an identifier means one item of its space, whether
+/// identifiers are synthesized for items without names or not.
 pub fn identifiers_are_apart()
     ensures { IdentifiersAreApart }
 {}
 
-/// Each identifier is UTF-8 and not empty, and each name is UTF-8.
+/// If entries have indices of 32 bits and names in UTF-8, each identifier is UTF-8 and not empty, and each name is
+/// UTF-8.
 pub fn identifiers_are_named()
     ensures { IdentifiersAreNamed }
 {}

@@ -60,8 +60,8 @@ fn print_by<'s, 'a, P: Print, K: LayoutOptions>(
     }
 }
 
-/// Prints a module. `labels` also holds the identifiers of the module. If operators are folded, a list with an operator
-/// of legacy exception handling is left out, and so is a hint that can't be folded; `check_folding` refuses both.
+/// Prints a module. `labels` also holds the identifiers of the module. If operators are folded, a list with a legacy
+/// operator is left out, and so is a hint that can't be folded; `check_folding` refuses both.
 ///
 /// # Errors
 ///

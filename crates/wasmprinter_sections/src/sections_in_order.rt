@@ -48,7 +48,7 @@ fn write_sections<O: FoldingOutput>(out: &mut O, module: &Module<'_>, scope: &mu
     }
 }
 
-/// Writes a whole module, with the identifiers of the labels. If operators are folded, `folder` folds them.
+/// Writes a whole module, with the identifiers of the labels. If operators are folded, `folder` holds their nodes.
 pub(crate) fn write_module<'s, 'a, O: FoldingOutput>(
     out: &mut O,
     module: &'s Module<'a>,

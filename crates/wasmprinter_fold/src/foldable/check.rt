@@ -12,7 +12,7 @@ use wasmprinter_bytes::Error;
 use wasmprinter_print::PrintOptions;
 use wasmprinter_wasm::{Fields, Module};
 
-/// Returns an error for the first operator of legacy exception handling in constant expressions before the bodies.
+/// Returns an error for the first legacy operator in constant expressions before the bodies.
 #[tactic(auto, using(crate::proofs::Steps::before_parts, crate::proofs::Steps::front_refused, crate::proofs::Steps::front_passed))]
 fn check_before_code(options: &PrintOptions, module: &Module<'_>) -> Result<(), Error>
     ensures { result ≡ error_of_first FoldLegacy (flat_map legacy_places_in (lists_before_code options.now module.now)) }
@@ -23,7 +23,7 @@ fn check_before_code(options: &PrintOptions, module: &Module<'_>) -> Result<(), 
     check_each(module.elements(), skeleton)
 }
 
-/// Returns an error for the first operator of legacy exception handling in bodies that are printed.
+/// Returns an error for the first legacy operator in bodies that are printed.
 fn check_printed_bodies(options: &PrintOptions, module: &Module<'_>) -> Result<(), Error>
     ensures { result ≡ error_of_first FoldLegacy (flat_map legacy_places_in (body_lists options.now module.now)) }
 {
@@ -33,7 +33,7 @@ fn check_printed_bodies(options: &PrintOptions, module: &Module<'_>) -> Result<(
     check_bodies(module)
 }
 
-/// Returns an error for the first operator of legacy exception handling that is printed.
+/// Returns an error for the first legacy operator that is printed.
 #[tactic(auto, using(crate::proofs::Steps::all_parts, crate::proofs::Steps::front_refused, crate::proofs::Steps::front_passed))]
 fn check_legacy(options: &PrintOptions, module: &Module<'_>) -> Result<(), Error>
     ensures { result ≡ error_of_first FoldLegacy (legacy_places options.now module.now) }

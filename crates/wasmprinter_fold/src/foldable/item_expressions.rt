@@ -21,7 +21,7 @@ pub(crate) trait HasExpressions {
     /// The lists that are printed, in a skeleton or in the full text.
     ghost lists: { Bool → Self → List Operators };
 
-    /// Returns an error for the first operator of legacy exception handling in these lists.
+    /// Returns an error for the first legacy operator in these lists.
     fn check_legacy(&self, skeleton: bool) -> Result<(), Error>
         ensures { result ≡ error_of_first FoldLegacy (flat_map legacy_places_in (lists skeleton self.now)) };
 }
@@ -64,7 +64,7 @@ impl<'a> HasExpressions for Data<'a> {
     }
 }
 
-/// Returns an error for the first operator of legacy exception handling in the offset of an element segment.
+/// Returns an error for the first legacy operator in the offset of an element segment.
 fn check_offset(mode: &ElementMode<'_>) -> Result<(), Error>
     ensures { result ≡ error_of_first FoldLegacy (flat_map legacy_places_in (offset_list (element_mode_view mode.now))) }
 {
@@ -74,7 +74,7 @@ fn check_offset(mode: &ElementMode<'_>) -> Result<(), Error>
     }
 }
 
-/// Returns an error for the first operator of legacy exception handling in items that are expressions.
+/// Returns an error for the first legacy operator in items that are expressions.
 #[tactic(auto, using(crate::proofs::Steps::items_single))]
 fn check_items(items: &ElementItems<'_>) -> Result<(), Error>
     ensures { result ≡ error_of_first FoldLegacy (flat_map legacy_places_in (item_lists (element_items_view items.now))) }
@@ -97,8 +97,7 @@ impl<'a> HasExpressions for Element<'a> {
     }
 }
 
-/// Returns `FoldLegacy`, with its place, for the first operator of legacy exception handling in the printed lists
-/// of the items.
+/// Returns `FoldLegacy`, with its place, for the first legacy operator in the printed lists of the items.
 pub(crate) fn check_each<T: HasExpressions>(items: &[T], skeleton: bool) -> Result<(), Error>
     ensures { result ≡ error_of_first FoldLegacy (flat_map legacy_places_in (flat_map (T.lists skeleton) items.now)) }
 {
@@ -108,8 +107,7 @@ pub(crate) fn check_each<T: HasExpressions>(items: &[T], skeleton: bool) -> Resu
     Ok(())
 }
 
-/// Returns `FoldLegacy`, with its place, for the first operator of legacy exception handling in the bodies of
-/// functions.
+/// Returns `FoldLegacy`, with its place, for the first legacy operator in the bodies of functions.
 pub(crate) fn check_bodies(module: &Module<'_>) -> Result<(), Error>
     ensures { result ≡ error_of_first FoldLegacy (flat_map legacy_places_in (map (λ f. f.body.value.operators) module.now.functions)) }
 {

@@ -1,5 +1,5 @@
-//! Operators of legacy exception handling (the first form of the exception handling proposal), which have no folded
-//! text.
+//! Legacy operators (`try`, `catch`, `catch_all` and `delegate` of the first form of the exception handling proposal),
+//! which have no folded text.
 ghost use Rattle.std.specs.Prelude.{◌≡◌};
 ghost use Rattle.wasmprinter_bytes.specs.declared.library_error.Error.TheVariants.{FoldLegacy};
 ghost use Rattle.wasmprinter_spec.specs.Folding.Refusals.{legacy_places_in};
@@ -9,7 +9,7 @@ use wasmprinter_bytes::Error;
 use wasmprinter_ops::expression::Expression;
 use wasmprinter_ops::opcode::Listed;
 
-/// Returns `FoldLegacy`, with its place, for the first operator of legacy exception handling.
+/// Returns `FoldLegacy`, with its place, for the first legacy operator.
 #[tactic(auto, using(crate::proofs::Steps::legacy_none))]
 pub(crate) fn check_expression(expression: &Expression<'_>) -> Result<(), Error>
     ensures { result ≡ error_of_first FoldLegacy (legacy_places_in expression.now.items) }
