@@ -12,7 +12,7 @@ use Rattle.wasmprinter_spec.specs.Binary.{Spells, binary, customs_in, type_indic
 use Rattle.wasmprinter_spec.specs.Names.{Naming, names_by}
 use Rattle.wasmprinter_spec.specs.Options.{Options}
 use Rattle.wasmprinter_custom.specs.Views.{NamedItem, name_at}
-use Rattle.wasmprinter_flat.specs.OpenLabels.Scan.{Scan, names_of}
+use Rattle.wasmprinter_flat.specs.OpenLabels.LabelState.{LabelState, names_of}
 use Rattle.wasmprinter_spec.specs.Names.Section.{Entry}
 use Rattle.wasmprinter_spec.specs.Names.Content.{name_of}
 use Rattle.wasmprinter_spec.specs.ModuleNames.{name_entries, module_names}
@@ -104,7 +104,7 @@ unnamed entries e s outer index = rw e refl
 -- ---- Printing with these names
 
 -- The identifiers that are printed with the names of a module's sections are those of the module.
-pub shown_names : (o : Options) (m : PlacedModule) (s : Scan) (items : List NamedItem) → s.named ≡ items → s.synthesizes ≡ o.synthesizes →
+pub shown_names : (o : Options) (m : PlacedModule) (s : LabelState) (items : List NamedItem) → s.item_names ≡ items → s.synthesizes ≡ o.synthesizes →
     ((t outer index : ℕ) → name_at items t outer index ≡ name_of (name_entries m.customs) t outer index) → names_of s ≡ module_names o.synthesizes m
 shown_names o m s items same synthesizes given =
     ap (λ (x : List NamedItem). names_by s.synthesizes (name_at x)) same ∙ ap (λ (b : Bool). names_by b (name_at items)) synthesizes ∙ are_names o.synthesizes m (name_at items) given

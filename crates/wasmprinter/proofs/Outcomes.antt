@@ -28,7 +28,7 @@ use Rattle.wasmprinter.specs.Outcome.{HasListedCause, HasListedTextCause, IsSoun
 use Rattle.wasmprinter_spec.specs.Names.Content.{name_of}
 use Rattle.wasmprinter_spec.specs.ModuleNames.{name_entries, module_names}
 use Rattle.wasmprinter_custom.specs.Views.{NamedItem, name_at}
-use Rattle.wasmprinter_flat.specs.OpenLabels.Scan.{Scan, names_of}
+use Rattle.wasmprinter_flat.specs.OpenLabels.LabelState.{LabelState, names_of}
 use Rattle.wasmprinter.proofs.Headline.{printed}
 use Rattle.wasmprinter.proofs.Named.{shown_names, same_module}
 use Rattle.wasmprinter.proofs.Subsections.{refusal_unknown, made_refused}
@@ -126,7 +126,7 @@ module _ (o : Options) (answers : Answers) (m : PlacedModule) where
   unfolding module_pieces
   by_names n e = ap (λ (x : Names). module_laid o answers x m) e
 
-  pub own_layout : (s : Scan) (items : List NamedItem) → s.named ≡ items → s.synthesizes ≡ o.synthesizes →
+  pub own_layout : (s : LabelState) (items : List NamedItem) → s.item_names ≡ items → s.synthesizes ≡ o.synthesizes →
       ((t outer index : ℕ) → name_at items t outer index ≡ name_of (name_entries m.customs) t outer index) → module_laid o answers (names_of s) m ≡ own_laid o answers m
   own_layout s items same synthesizes given = by_names (names_of s) (shown_names o m s items same synthesizes given)
 
@@ -148,7 +148,7 @@ module _ {P : Type 0} (printer : Change P) (colors : Bool) (o : Options) {bytes 
   AsLaid r = PrintsLaid printer.meaning by printer.old printer.new r (own_laid by answers d.placed)
 
   -- A module that was written with the names of its sections was printed as its own layout says.
-  pub own_ended : (r : Result (Unit {0}) Error) (s : Scan) (items : List NamedItem) → s.named ≡ items → s.synthesizes ≡ o.synthesizes →
+  pub own_ended : (r : Result (Unit {0}) Error) (s : LabelState) (items : List NamedItem) → s.item_names ≡ items → s.synthesizes ≡ o.synthesizes →
       ((t outer index : ℕ) → name_at items t outer index ≡ name_of (name_entries d.placed.customs) t outer index) →
       PrintsLaid printer.meaning by printer.old printer.new r (module_laid by answers (names_of s) d.placed) → AsLaid r
   own_ended r s items same synthesizes given v =

@@ -4,7 +4,8 @@ use Rattle.std.specs.Prelude.{MatchOption}
 use Rattle.std.proofs.lemmas.List.{append-nil}
 use Rattle.wasmprinter_spec.specs.Grammar.{Input}
 use Rattle.wasmprinter_spec.specs.Lenient.{Groups}
-use Rattle.wasmprinter_spec.specs.Names.Section.{Entry, subsection, all_of}
+use Rattle.wasmprinter_spec.specs.Types.{concat}
+use Rattle.wasmprinter_spec.specs.Names.Section.{Entry, subsection}
 use Rattle.wasmprinter_spec.proofs.NameSections.{subsection_shrinks}
 use Rattle.wasmprinter_bytes.specs.declared.library_error.Error.{Error}
 use Rattle.wasmprinter_bytes.specs.declared.library_error.Error.TheVariants.{Malformed, Memory}
@@ -22,12 +23,12 @@ pub record Underway (start : Input) (old : NamesBuilder) (at : Input) (now : Nam
 
 module _ (at : Input) (a b : NamesBuilder) (some : at.bytes ≢ []) where
   more_by : (mid : Input) (new : NamesBuilder) (xs : List Entry) (groups : List (List Entry)) (end : Option Input) → subsection.read at ≡ (xs, end)
-      → AddsUpTo subsection at a b (Some mid) → AddsAll mid b new → MatchOption end (groups ≡ []) (λ m. Groups subsection m groups) → Grows a new (xs ++ all_of groups)
+      → AddsUpTo subsection at a b (Some mid) → AddsAll mid b new → MatchOption end (groups ≡ []) (λ m. Groups subsection m groups) → Grows a new (xs ++ concat groups)
   more_by mid new xs groups end e h rest m =
       let ends : end ≡ Some mid = sym (ap (λ r. r.1) e) ∙ h.0 in
       let grown : Grows a b xs = subst (λ (ys : List Entry). Grows a b ys) (ap (λ r. r.0) e) h.1 in
       let others : Groups subsection mid groups = subst (λ (o : Option Input). MatchOption o (groups ≡ []) (λ x. Groups subsection x groups)) ends m in
-      grows_more a b new xs (all_of groups) grown (rest (all_of groups) (groups, others, refl))
+      grows_more a b new xs (concat groups) grown (rest (concat groups) (groups, others, refl))
 
   all_more : (mid : Input) (new : NamesBuilder) → AddsUpTo subsection at a b (Some mid) → AddsAll mid b new → AddsAll at a new
   all_more mid new h rest gives ([], none, e) = absurd (some none)
@@ -35,12 +36,12 @@ module _ (at : Input) (a b : NamesBuilder) (some : at.bytes ≢ []) where
       subst (λ (ys : List Entry). Grows a new ys) (sym e) (more_by mid new xs groups end (subsection.complete at xs end s) h rest m)
 
   stopped_by : (xs : List Entry) (groups : List (List Entry)) (end : Option Input) → subsection.read at ≡ (xs, end)
-      → AddsUpTo subsection at a b None → MatchOption end (groups ≡ []) (λ m. Groups subsection m groups) → Grows a b (xs ++ all_of groups)
+      → AddsUpTo subsection at a b None → MatchOption end (groups ≡ []) (λ m. Groups subsection m groups) → Grows a b (xs ++ concat groups)
   stopped_by xs groups end e h m =
       let ends : end ≡ None = sym (ap (λ r. r.1) e) ∙ h.0 in
       let grown : Grows a b xs = subst (λ (ys : List Entry). Grows a b ys) (ap (λ r. r.0) e) h.1 in
       let none : groups ≡ [] = subst (λ (o : Option Input). MatchOption o (groups ≡ []) (λ x. Groups subsection x groups)) ends m in
-      subst (λ (ys : List Entry). Grows a b ys) (sym (ap (λ (gs : List (List Entry)). xs ++ all_of gs) none ∙ append-nil xs)) grown
+      subst (λ (ys : List Entry). Grows a b ys) (sym (ap (λ (gs : List (List Entry)). xs ++ concat gs) none ∙ append-nil xs)) grown
 
   all_stopped : AddsUpTo subsection at a b None → AddsAll at a b
   all_stopped h gives ([], none, e) = absurd (some none)
@@ -48,11 +49,11 @@ module _ (at : Input) (a b : NamesBuilder) (some : at.bytes ≢ []) where
       subst (λ (ys : List Entry). Grows a b ys) (sym e) (stopped_by xs groups end (subsection.complete at xs end s) h m)
 
   some_by : (mid : Input) (xs : List Entry) (groups : List (List Entry)) (end : Option Input) → subsection.read at ≡ (xs, end)
-      → AddsUpTo subsection at a b (Some mid) → GivesSome mid → MatchOption end (groups ≡ []) (λ m. Groups subsection m groups) → (xs ++ all_of groups) ≢ []
+      → AddsUpTo subsection at a b (Some mid) → GivesSome mid → MatchOption end (groups ≡ []) (λ m. Groups subsection m groups) → (xs ++ concat groups) ≢ []
   some_by mid xs groups end e h rest m =
       let ends : end ≡ Some mid = sym (ap (λ r. r.1) e) ∙ h.0 in
       let others : Groups subsection mid groups = subst (λ (o : Option Input). MatchOption o (groups ≡ []) (λ x. Groups subsection x groups)) ends m in
-      right-some xs (all_of groups) (rest (all_of groups) (groups, others, refl))
+      right-some xs (concat groups) (rest (concat groups) (groups, others, refl))
 
   some_more : (mid : Input) → AddsUpTo subsection at a b (Some mid) → GivesSome mid → GivesSome at
   some_more mid h rest gives ([], none, e) = absurd (some none)
@@ -63,7 +64,7 @@ module _ (at : Input) (a b : NamesBuilder) (some : at.bytes ≢ []) where
   some_here h gives ([], none, e) = absurd (some none)
   some_here h gives (xs ∷ groups, (lt, end, s, m), e) =
       subst (λ (ys : List Entry). ys ≢ []) (sym e)
-      (left-some xs (all_of groups) (subst (λ (ys : List Entry). ys ≢ []) (ap (λ r. r.0) (subsection.complete at xs end s)) h))
+      (left-some xs (concat groups) (subst (λ (ys : List Entry). ys ≢ []) (ap (λ r. r.0) (subsection.complete at xs end s)) h))
 
   pub smaller : (mid : Input) → AddsUpTo subsection at a b (Some mid) → length mid.bytes < length at.bytes
   smaller mid h = subsection_shrinks at mid (subsection.read at).0 (subst (λ (o : Option Input). subsection.gives at (subsection.read at).0 o) h.0 (subsection.sound at))

@@ -13,7 +13,7 @@ use Rattle.wasmprinter_spec.specs.Layout.Operators.{Setting, level, before_word,
 use Rattle.wasmprinter_print.specs.OutputLaws.{AllThen}
 use Rattle.wasmprinter_ops.specs.Operators.{placed_view, pairs}
 use Rattle.wasmprinter_ops.proofs.Pairs.{first-pair, no-pair}
-use Rattle.wasmprinter_flat.specs.OpenLabels.Scan.{Scan, names_of, own_label, at_start_again, after_operator}
+use Rattle.wasmprinter_flat.specs.OpenLabels.LabelState.{LabelState, names_of, own_label, at_start_again, after_operator}
 use Rattle.wasmprinter_flat.specs.Settings.{word_pieces}
 use Rattle.wasmprinter_flat.proofs.Depths.{after-length, after-count}
 
@@ -49,17 +49,17 @@ unfolding operators_pieces
 operators-nil s hs first n xs os e = ap (λ ps. operators_pieces s hs first n xs ps) e
 
 -- The identifiers and the function of the state are those of the setting.
-pub record Fits (s : Setting) (l : Scan) : Type 0 where
+pub record Fits (s : Setting) (l : LabelState) : Type 0 where
   pub names : names_of l ≡ s.names
   pub function : l.function ≡ s.function
 
 -- The label of the block that the next operator may open is the one of the setting.
-pub own-fits : (s : Setting) (l : Scan) → Fits s l → own_label l ≡ s.names.labels s.function l.count (length l.labels)
+pub own-fits : (s : Setting) (l : LabelState) → Fits s l → own_label l ≡ s.names.labels s.function l.count (length l.labels)
 own-fits s l f =
     ap (λ (names : Names). names.labels l.function l.count (length l.labels)) f.names ∙ ap (λ function. s.names.labels function l.count (length l.labels)) f.function
 
 -- The pieces of the next operator under the identifiers of the state are those under the setting.
-pub operator-fits : (s : Setting) (l : Scan) (first : Bool) (o : Placed Operator) → Fits s l →
+pub operator-fits : (s : Setting) (l : LabelState) (first : Bool) (o : Placed Operator) → Fits s l →
     operator_pieces (record s { names = names_of l }) first (own_label l) l.labels o
     ≡ operator_pieces s first (s.names.labels s.function l.count (length l.labels)) l.labels o
 operator-fits s l first o f =
@@ -67,27 +67,27 @@ operator-fits s l first o f =
 
 -- The loop invariant: whoever writes the operators of `rest`, with the hints of `left`, has written all. Even if each
 -- remaining operator opens a block, the number of open blocks stays below 2^64.
-pub record Progress {S : Type 0} (wrote : S → S → List Piece → Type 0) (old new : S) (s : Setting) (start : Scan) (hints : List (Placed Hint)) (all rest : List (Placed Operator)) (left : List (Placed Hint)) (first : Bool) (l : Scan) : Type 0 where
+pub record Progress {S : Type 0} (wrote : S → S → List Piece → Type 0) (old new : S) (s : Setting) (start : LabelState) (hints : List (Placed Hint)) (all rest : List (Placed Operator)) (left : List (Placed Hint)) (first : Bool) (l : LabelState) : Type 0 where
   pub writes : (t : S) → wrote new t (operators_pieces s left first l.count l.labels rest) → wrote old t (operators_pieces s hints true 0 [] all)
-  pub named : l.named ≡ start.named
+  pub item_names : l.item_names ≡ start.item_names
   pub synthesizes : l.synthesizes ≡ start.synthesizes
   pub fits : Fits s l
   pub counted : l.count + length rest < 2 ^ 64
   pub nested : length l.labels + length rest < 2 ^ 64
 
 -- The invariant holds at the start, before anything is written.
-pub starts : {S : Type 0} (wrote : S → S → List Piece → Type 0) (a : S) (s : Setting) (start l : Scan) (hints : List (Placed Hint)) (all os : List (Placed Operator)) →
+pub starts : {S : Type 0} (wrote : S → S → List Piece → Type 0) (a : S) (s : Setting) (start l : LabelState) (hints : List (Placed Hint)) (all os : List (Placed Operator)) →
     l ≡ at_start_again s.function start → names_of start ≡ s.names → os ≡ all → length all < 2 ^ 64 → Progress wrote a a s start hints all os hints true l
 starts {S} wrote a s start l hints all os b n e h = rw b (record {
   writes = λ t w. subst (λ (ps : List (Placed Operator)). wrote a t (operators_pieces s hints true 0 [] ps)) e w;
-  named = refl;
+  item_names = refl;
   synthesizes = refl;
   fits = record { names = n; function = refl };
   counted = omega (arith, h, ap length e);
   nested = omega (arith, h, ap length e);
 })
 
-module _ {S : Type 0} (wrote : S → S → List Piece → Type 0) {a t : S} {s : Setting} {start : Scan} {hints : List (Placed Hint)} {all os : List (Placed Operator)} {left : List (Placed Hint)} {first : Bool} {l : Scan} (p : Progress wrote a t s start hints all os left first l) where
+module _ {S : Type 0} (wrote : S → S → List Piece → Type 0) {a t : S} {s : Setting} {start : LabelState} {hints : List (Placed Hint)} {all os : List (Placed Operator)} {left : List (Placed Hint)} {first : Bool} {l : LabelState} (p : Progress wrote a t s start hints all os left first l) where
   -- If an operator is left, the number of open blocks plus 1 is below 2^64.
   pub has_room : (rest : List (Placed Operator)) (x : ℕ × Operator) → pairs os ≡ x ∷ pairs rest → length l.labels + 1 < 2 ^ 64
   has_room rest x e = omega (arith, p.nested, ap length (first-pair os rest x e))
@@ -123,14 +123,14 @@ module _ {S : Type 0} (wrote : S → S → List Piece → Type 0) {a t : S} {s :
       writes_next rest x e v (then t u v _ _ hint (then u k v _ _ operator w))
 
   -- After the hint and the next operator are written, the invariant holds for the others.
-  pub goes_on : AllThen wrote → {u w : S} (rest : List (Placed Operator)) (x : ℕ × Operator) (role : Role) (k : Scan) (after : List (Placed Hint)) → pairs os ≡ x ∷ pairs rest →
+  pub goes_on : AllThen wrote → {u w : S} (rest : List (Placed Operator)) (x : ℕ × Operator) (role : Role) (k : LabelState) (after : List (Placed Hint)) → pairs os ≡ x ∷ pairs rest →
       role ≡ role_of x.1.opcode → k ≡ after_operator role l → after ≡ hints_after (x.0 - s.body) left →
       wrote t u (hint_pieces (s.nesting + length l.labels) (next_hint (x.0 - s.body) left)) →
       wrote u w (operator_pieces (record s { names = names_of l }) first (own_label l) l.labels (placed_view x)) →
       Progress wrote a w s start hints all rest after false k
   goes_on then rest x role k after e r b h hint operator = rw (b, r, h) (record {
     writes = after_next then rest x e hint operator;
-    named = p.named;
+    item_names = p.item_names;
     synthesizes = p.synthesizes;
     fits = record { names = p.fits.names; function = p.fits.function };
     counted = omega (arith, p.counted, ap length (first-pair os rest x e), after-count (role_of x.1.opcode) l.count);

@@ -9,7 +9,7 @@ use Rattle.wasmprinter_spec.specs.Operator.{Immediates, Catch}
 use Rattle.wasmprinter_spec.specs.Piece.{Piece}
 use Rattle.wasmprinter_spec.specs.Layout.Operators.{Setting, immediate_pieces, catch_pieces, catches_pieces}
 use Rattle.wasmprinter_ops.specs.Shapes.{role_view}
-use Rattle.wasmprinter_flat.specs.OpenLabels.Scan.{names_of, own_label}
+use Rattle.wasmprinter_flat.specs.OpenLabels.LabelState.{names_of, own_label}
 use Rattle.wasmprinter_flat.specs.Settings.{setting_view}
 use Rattle.wasmprinter_flat.specs.declared.immediate_context.Context.{Context}
 

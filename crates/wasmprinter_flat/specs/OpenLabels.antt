@@ -1,7 +1,7 @@
 pub mod Blocks
 pub mod Found
 pub mod Inside
+pub mod LabelState
 pub mod Numbers
-pub mod Scan
 pub mod Stack
 pub mod Views

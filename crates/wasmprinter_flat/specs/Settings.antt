@@ -8,7 +8,7 @@ use Rattle.wasmprinter_spec.specs.Row.{Role}
 use Rattle.wasmprinter_spec.specs.Table.{word_of, role_of, shape_of}
 use Rattle.wasmprinter_spec.specs.Labels.{Label, labels_outside, labels_inside}
 use Rattle.wasmprinter_spec.specs.Layout.Operators as layout
-use Rattle.wasmprinter_flat.specs.OpenLabels.Scan.{Scan, names_of, own_label}
+use Rattle.wasmprinter_flat.specs.OpenLabels.LabelState.{LabelState, names_of, own_label}
 use Rattle.wasmprinter_flat.specs.declared.operators.Form.{Form}
 use Rattle.wasmprinter_flat.specs.declared.operators.Form.TheVariants as forms
 use Rattle.wasmprinter_flat.specs.declared.operators.Setting.{Setting}
@@ -28,7 +28,7 @@ abbrev pub setting_view : {S : Type 0} → (S → ℕ → Option FuncType) → S
 setting_view signature_at s names = setting_of s.form (signature_at s.types.now) s.nesting names s.function s.body
 
 -- The setting of the definitions, with the identifiers that the state of the labels has.
-abbrev pub setting_with_names : {S : Type 0} → (S → ℕ → Option FuncType) → Setting S → Scan → layout.Setting
+abbrev pub setting_with_names : {S : Type 0} → (S → ℕ → Option FuncType) → Setting S → LabelState → layout.Setting
 setting_with_names signature_at s labels = setting_view signature_at s (names_of labels)
 
 -- The pieces of an operator's word and immediates. `xs` are the labels that are open before it, and `own` is that
@@ -39,5 +39,5 @@ word_pieces s own xs o =
     Word (word_of o.opcode) ∷ layout.pieces_by s (labels_inside role xs) (labels_outside role xs) own (shape_of o.opcode) o.immediates
 
 -- The pieces of an operator's word and immediates, in the program's state of the labels.
-abbrev pub word_pieces_with_names : {S : Type 0} → (S → ℕ → Option FuncType) → Setting S → Scan → Operator → List Piece
+abbrev pub word_pieces_with_names : {S : Type 0} → (S → ℕ → Option FuncType) → Setting S → LabelState → Operator → List Piece
 word_pieces_with_names signature_at s labels o = word_pieces (setting_with_names signature_at s labels) (own_label labels) labels.labels o

@@ -6,8 +6,8 @@ ghost use Rattle.wasmprinter_ops.specs.Shapes.{role_view};
 ghost use Rattle.wasmprinter_custom.specs.Views.{name_at};
 ghost use Rattle.wasmprinter_custom.specs.Shown.{identifier_view};
 ghost use Rattle.wasmprinter_flat.specs.OpenLabels.Found.{found_among};
-ghost use Rattle.wasmprinter_flat.specs.OpenLabels.Scan.{own_label, at_start, at_start_again, found_at};
-ghost use Rattle.wasmprinter_flat.specs.OpenLabels.Scan.{after_opening, after_closing, after_operator};
+ghost use Rattle.wasmprinter_flat.specs.OpenLabels.LabelState.{own_label, at_start, at_start_again, found_at};
+ghost use Rattle.wasmprinter_flat.specs.OpenLabels.LabelState.{after_opening, after_closing, after_operator};
 ghost use Rattle.wasmprinter_flat.specs.OpenLabels.Stack.{unnamed_label};
 ghost use Rattle.wasmprinter_flat.specs.OpenLabels.Inside.{label_of};
 ghost use Rattle.wasmprinter_flat.specs.OpenLabels.Views.{found_view};
@@ -53,14 +53,14 @@ pub struct OpenLabels<'n, 'a> {
 }
 
 impl<'n, 'a> Model for OpenLabels<'n, 'a> {
-    ghost use Rattle.wasmprinter_flat.specs.OpenLabels.Scan.{Scan};
+    ghost use Rattle.wasmprinter_flat.specs.OpenLabels.LabelState.{LabelState};
     ghost use Rattle.wasmprinter_flat.specs.OpenLabels.Stack.{labels_from};
     ghost use Rattle.wasmprinter_flat.specs.OpenLabels.Inside.{IsKept};
 
-    ghost Value = { Scan };
+    ghost Value = { LabelState };
 
     ghost view = { λ x. record {
-      named = x.identifiers.names.now;
+      item_names = x.identifiers.names.now;
       synthesizes = x.identifiers.synthesizes;
       function = x.function;
       count = x.opened;
@@ -119,7 +119,7 @@ impl<'n, 'a> OpenLabels<'n, 'a> {
 
     /// Returns the identifiers that were passed to [`OpenLabels::new`].
     pub fn identifiers(&self) -> Identifiers<'n, 'a>
-        ensures named { result.names.now ≡ self.now.named }
+        ensures item_names { result.names.now ≡ self.now.item_names }
         ensures synthesizes { result.synthesizes ≡ self.now.synthesizes }
     {
         self.identifiers

@@ -2,7 +2,7 @@
 ghost use Rattle.std.specs.Prelude.{◌≡◌, ◌+◌, ◌-◌, ◌<◌, ◌^◌, [], length, true, Some};
 ghost use Rattle.wasmprinter_spec.specs.Customs.Hints.{next_hint, hints_after};
 ghost use Rattle.wasmprinter_spec.specs.Layout.Operators.{level as level_of, before_word};
-ghost use Rattle.wasmprinter_spec.specs.Layout.Operators.{hint_pieces, operators_pieces};
+ghost use Rattle.wasmprinter_spec.specs.Layout.Operators.{hint_pieces, list_pieces};
 ghost use Rattle.wasmprinter_ops.specs.Shapes.{role_view};
 ghost use Rattle.wasmprinter_flat.specs.Settings.{form_view, setting_with_names, word_pieces_with_names};
 
@@ -143,8 +143,8 @@ pub fn write_operators<O: Output, S: Signatures>(
     expression: &Expression<'_>,
 )
     ensures pieces { O.wrote out.old out.new
-        (operators_pieces (setting_with_names S.signature_at setting.now labels.old) hints.entry true 0 [] expression.now.items) }
-    ensures named { labels.new.named ≡ labels.old.named }
+        (list_pieces (setting_with_names S.signature_at setting.now labels.old) hints.entry expression.now.items) }
+    ensures item_names { labels.new.item_names ≡ labels.old.item_names }
     ensures synthesizes { labels.new.synthesizes ≡ labels.old.synthesizes }
 {
     labels.begin(setting.function);

@@ -22,7 +22,7 @@ use Rattle.wasmprinter_spec.proofs.FoldingItems.{roles-items}
 use Rattle.wasmprinter_flat.proofs.Walking.{Fits, own-fits}
 use Rattle.wasmprinter_ops.specs.Operators.{placed_view, pairs}
 use Rattle.wasmprinter_ops.proofs.Pairs.{first-pair, no-pair}
-use Rattle.wasmprinter_flat.specs.OpenLabels.Scan.{Scan, names_of, own_label, at_start_again, after_operator}
+use Rattle.wasmprinter_flat.specs.OpenLabels.LabelState.{LabelState, names_of, own_label, at_start_again, after_operator}
 use Rattle.wasmprinter_flat.proofs.Depths.{after-length, after-count}
 use Rattle.wasmprinter_fold.specs.Building.{Top, StateOf, Step, start, state_at, step, step_of, steps, run_all}
 use Rattle.wasmprinter_fold.specs.Mapping.{map_nodes}
@@ -37,7 +37,7 @@ use Rattle.wasmprinter_fold.proofs.RowLaws.{rows_shown}
 -- ---- The step of an operator
 
 -- The step of an item is that of the printed text of its operator, by its role.
-step-shown : (color : Bool) (s : Setting) (t : Signatures) (hint : Option (Placed Hint)) (l : Scan) (ls : List (Option ℕ)) (o : Placed Operator) (r : Role) →
+step-shown : (color : Bool) (s : Setting) (t : Signatures) (hint : Option (Placed Hint)) (l : LabelState) (ls : List (Option ℕ)) (o : Placed Operator) (r : Role) →
     let counts : OperandCounts = counts_of t ls o.value in
     step_of (shown_head color) r (item s t hint (own_label l) l.labels ls o)
     ≡ shown_step r (shown_operator color s l o.place (option_map (λ h. h.value.taken) hint) o.value)
@@ -53,7 +53,7 @@ step-shown color s t hint l ls o row.Delegates = refl
 step-shown color s t hint l ls o row.Ends = refl
 
 -- The step of an item is that of the program's operator, whose settings, identifiers and hint are equal.
-step-next : (color other : Bool) (s : Setting) (t : Signatures) (next : Option (Placed Hint)) (hint : Option Bool) (names : Names) (l : Scan) (ls : List (Option ℕ)) (o : Placed Operator) (r : Role) →
+step-next : (color other : Bool) (s : Setting) (t : Signatures) (next : Option (Placed Hint)) (hint : Option Bool) (names : Names) (l : LabelState) (ls : List (Option ℕ)) (o : Placed Operator) (r : Role) →
     other ≡ color → names ≡ s.names → hint ≡ option_map (λ h. h.value.taken) next →
     step_of (shown_head color) r (item s t next (own_label l) l.labels ls o)
     ≡ shown_step r (shown_operator other (record s { names = names }) l o.place hint o.value)
@@ -82,28 +82,28 @@ unfolding items
 items-nil s t hs n xs ls os e = ap (λ os. items s t hs n xs ls os) e
 
 -- The state after the operators of a list, folded one after another.
-abbrev pub run_items : Bool → Setting → Signatures → List (Placed Hint) → Scan → List (Option ℕ) → StateOf ShownNode → List (Placed Operator) → StateOf ShownNode
+abbrev pub run_items : Bool → Setting → Signatures → List (Placed Hint) → LabelState → List (Option ℕ) → StateOf ShownNode → List (Placed Operator) → StateOf ShownNode
 run_items color s t hs l ls u os = run_all u (steps (shown_head color) (items s t hs l.count l.labels ls os))
 
 -- The loop invariant: all operators before `rest` were folded, and `left` are the hints still to be used. Folding
 -- `rest` from here gives the result of folding all operators from the start. None of the folded operators belongs
 -- to legacy exception handling. Even if each remaining operator opens a block, the number of blocks stays below
 -- 2^64.
-pub record Progress (color : Bool) (s : Setting) (t : Signatures) (from : Scan) (hints : List (Placed Hint)) (all rest : List (Placed Operator)) (left : List (Placed Hint)) (l : Scan) (g : GrowingTree) : Type 0 where
+pub record Progress (color : Bool) (s : Setting) (t : Signatures) (from : LabelState) (hints : List (Placed Hint)) (all rest : List (Placed Operator)) (left : List (Placed Hint)) (l : LabelState) (g : GrowingTree) : Type 0 where
   pub state : StateOf ShownNode
   pub shows : Shows g state
   pub leads : run_items color s t left l g.labels state rest ≡ run_all start (steps (shown_head color) (items s t hints 0 [] [] all))
   pub none_before : AreWithoutTry (roles rest) → AreWithoutTry (roles all)
   pub none_after : AreWithoutTry (roles all) → AreWithoutTry (roles rest)
   pub colors_same : g.texts.color ≡ color
-  pub named : l.named ≡ from.named
+  pub item_names : l.item_names ≡ from.item_names
   pub synthesizes : l.synthesizes ≡ from.synthesizes
   pub fits : Fits s l
   pub counted : l.count + length rest < 2 ^ 64
   pub nested : length l.labels + length rest < 2 ^ 64
 
 -- The invariant holds at the start, before anything is folded.
-pub starts : (color : Bool) (s : Setting) (t : Signatures) (from l : Scan) (hints : List (Placed Hint)) (all os : List (Placed Operator)) (g : GrowingTree) →
+pub starts : (color : Bool) (s : Setting) (t : Signatures) (from l : LabelState) (hints : List (Placed Hint)) (all os : List (Placed Operator)) (g : GrowingTree) →
     l ≡ at_start_again s.function from → names_of from ≡ s.names → os ≡ all → length all < 2 ^ 64 → Shows g start → g.texts.color ≡ color → g.labels ≡ [] →
     Progress color s t from hints all os hints l g
 starts color s t from l hints all os g b n e h w p c = rw (b) (record {
@@ -113,14 +113,14 @@ starts color s t from l hints all os g b n e h w p c = rw (b) (record {
   none_before = λ a. rw (← e) a;
   none_after = λ a. rw (e) a;
   colors_same = p;
-  named = refl;
+  item_names = refl;
   synthesizes = refl;
   fits = record { names = n; function = refl };
   counted = omega (arith, h, ap length e);
   nested = omega (arith, h, ap length e);
 })
 
-module _ {color : Bool} {s : Setting} {t : Signatures} {from : Scan} {hints : List (Placed Hint)} {all os : List (Placed Operator)} {left : List (Placed Hint)} {l : Scan} {g : GrowingTree} (p : Progress color s t from hints all os left l g) where
+module _ {color : Bool} {s : Setting} {t : Signatures} {from : LabelState} {hints : List (Placed Hint)} {all os : List (Placed Operator)} {left : List (Placed Hint)} {l : LabelState} {g : GrowingTree} (p : Progress color s t from hints all os left l g) where
   -- If an operator is left, the number of open blocks plus 1 is below 2^64.
   pub has_room : (rest : List (Placed Operator)) (x : ℕ × Operator) → pairs os ≡ x ∷ pairs rest → length l.labels + 1 < 2 ^ 64
   has_room rest x e = omega (arith, p.nested, ap length (first-pair os rest x e))
@@ -144,7 +144,7 @@ module _ {color : Bool} {s : Setting} {t : Signatures} {from : Scan} {hints : Li
           absurd (cc (sym h ∙ v.0))
 
   -- After the next operator is folded, the invariant holds for the others.
-  pub goes_on : (rest : List (Placed Operator)) (x : ℕ × Operator) (role : Role) (k : Scan) (remaining : List (Placed Hint)) (n : GrowingTree) (hint : Option Bool) →
+  pub goes_on : (rest : List (Placed Operator)) (x : ℕ × Operator) (role : Role) (k : LabelState) (remaining : List (Placed Hint)) (n : GrowingTree) (hint : Option Bool) →
       pairs os ≡ x ∷ pairs rest → role ≡ role_of x.1.opcode → is_try role ≡ false → k ≡ after_operator role l → remaining ≡ hints_after (x.0 - s.body) left →
       hint ≡ option_map (λ h. h.value.taken) (next_hint (x.0 - s.body) left) → n.texts.color ≡ g.texts.color →
       n.labels ≡ labels_after (role_of x.1.opcode) (label_of_block t x.1) g.labels →
@@ -172,7 +172,7 @@ module _ {color : Bool} {s : Setting} {t : Signatures} {from : Scan} {hints : Li
         none_before = λ a. p.none_before (subst (λ (y : List (Placed Operator)). AreWithoutTry (roles y)) (sym (first-pair os rest x e)) (ap is_try (sym r) ∙ y, a));
         none_after = λ a. (subst (λ (y : List (Placed Operator)). AreWithoutTry (roles y)) (first-pair os rest x e) (p.none_after a)).1;
         colors_same = w ∙ p.colors_same;
-        named = p.named;
+        item_names = p.item_names;
         synthesizes = p.synthesizes;
         fits = record { names = p.fits.names; function = p.fits.function };
         counted = omega (arith, p.counted, ap length (first-pair os rest x e), after-count (role_of x.1.opcode) l.count);

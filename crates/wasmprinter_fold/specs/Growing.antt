@@ -11,7 +11,7 @@ use Rattle.wasmprinter_spec.specs.Folding.Arities.{OperandCounts}
 use Rattle.wasmprinter_spec.specs.Folding.Code.{NestedCode}
 use Rattle.wasmprinter_spec.specs.Folding.Tree.{tree}
 use Rattle.wasmprinter_spec.specs.Layout.Operators.{Setting}
-use Rattle.wasmprinter_flat.specs.OpenLabels.Scan.{Scan, own_label}
+use Rattle.wasmprinter_flat.specs.OpenLabels.LabelState.{LabelState, own_label}
 use Rattle.wasmprinter_flat.specs.Settings.{word_pieces}
 use Rattle.wasmprinter_fold.specs.declared.nodes.builder.Builder.{Builder}
 use Rattle.wasmprinter_fold.specs.Building.{Top, StateOf, Step, Plain, Opens, OpensIf, Else, Ends, state_at, step}
@@ -38,7 +38,7 @@ abbrev pub GrowsByStep : GrowingTree → GrowingTree → Step ShownNode → Type
 GrowsByStep old new x = (s : StateOf ShownNode) → Shows old s → Shows new (step s x)
 
 -- The printed text of an operator, given the state of the labels before it.
-abbrev pub shown_operator : Bool → Setting → Scan → ℕ → Option Bool → Operator → ShownNode
+abbrev pub shown_operator : Bool → Setting → LabelState → ℕ → Option Bool → Operator → ShownNode
 shown_operator color s l place hint o = shown_of_calls place hint color (all_calls defaults (word_pieces s (own_label l) l.labels o))
 
 -- The printed text of a case of an `if`.
@@ -55,7 +55,7 @@ shown_step row.Else x then otherwise counts = Else otherwise
 shown_step _ x then otherwise counts = Ends
 
 -- The step of an operator, given the state of the labels before it.
-abbrev pub operator_step : Bool → Setting → Scan → ℕ → Option Bool → Operator → OperandCounts → Step ShownNode
+abbrev pub operator_step : Bool → Setting → LabelState → ℕ → Option Bool → Operator → OperandCounts → Step ShownNode
 operator_step color s l place hint o counts =
     shown_step (role_of o.opcode) (shown_operator color s l place hint o) (shown_keyword color place (codes "then"))
     (shown_keyword color place (codes "else")) counts

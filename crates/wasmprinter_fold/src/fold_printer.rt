@@ -76,7 +76,7 @@ impl<'m, 'a> Folder<'m, 'a> {
             (folded_list (folding_view self.old) own (setting_with_names S.signature_at setting.now labels.old) hints.entry
             expression.now.items) }
         ensures folder { self.new ≡ self.old }
-        ensures named { labels.new.named ≡ labels.old.named }
+        ensures item_names { labels.new.item_names ≡ labels.old.item_names }
         ensures synthesizes { labels.new.synthesizes ≡ labels.old.synthesizes }
     {
         if out.has_failed() {

@@ -230,7 +230,7 @@ impl GrowingTree {
         expression: &Expression<'_>,
     ) -> Result<bool, AllocError>
         ensures color { self.new.texts.color ≡ self.old.texts.color }
-        ensures named { labels.new.named ≡ labels.old.named }
+        ensures item_names { labels.new.item_names ≡ labels.old.item_names }
         ensures synthesizes { labels.new.synthesizes ≡ labels.old.synthesizes }
         ensures grown { IfOk result (λ folded. IsGrown self.old.texts.color self.new folded (nested_code_of
             (items (setting_with_names S.signature_at setting.now labels.old) (signatures_within callees.now own) hints.entry 0 [] []

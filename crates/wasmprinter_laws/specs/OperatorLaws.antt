@@ -15,7 +15,7 @@ use Rattle.wasmprinter_spec.specs.Names.Section.{Entry}
 use Rattle.wasmprinter_spec.specs.Names.{AreApart, AreNamed, in_function, identifiers, names_of}
 use Rattle.wasmprinter_spec.specs.Piece.{all_calls}
 use Rattle.wasmprinter_spec.specs.Customs.Hints.{Hint}
-use Rattle.wasmprinter_spec.specs.Layout.Operators.{Setting, operators_pieces}
+use Rattle.wasmprinter_spec.specs.Layout.Operators.{Setting, list_pieces}
 use Rattle.wasmprinter_spec.specs.Forest.{forest, without_annotations}
 use Rattle.wasmprinter_spec.specs.Code.{chunks_of_forest}
 use Rattle.wasmprinter_spec.specs.IndexSpaces.{Context, space_in}
@@ -74,7 +74,7 @@ OperatorsReadBack =
     (c : Context) (n : Counts) → HaveSameTypes s c n → HaveSameNames s c n →
     (hs : List (Placed Hint)) (os : List (Placed Operator)) → AreOperators n os →
     (o : Options) → IsBlank o.indent →
-    read_alone c (text_of (all_calls o (operators_pieces s hs true 0 [] os))) ≡ Some (without_places os)
+    read_alone c (text_of (all_calls o (list_pieces s hs os))) ≡ Some (without_places os)
 
 -- The same holds if items and labels have the names that name sections give, and the others synthesized identifiers
 -- or none.
@@ -85,4 +85,4 @@ NamedOperatorsReadBack =
     (c : Context) (n : Counts) → HaveSameTypes s c n → HaveSameNames s c n →
     (hs : List (Placed Hint)) (os : List (Placed Operator)) → AreOperators n os →
     (o : Options) → IsBlank o.indent →
-    read_alone c (text_of (all_calls o (operators_pieces s hs true 0 [] os))) ≡ Some (without_places os)
+    read_alone c (text_of (all_calls o (list_pieces s hs os))) ≡ Some (without_places os)

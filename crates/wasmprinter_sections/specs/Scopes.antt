@@ -9,7 +9,7 @@ use Rattle.wasmprinter_spec.specs.Folding.Arities.{types_of}
 use Rattle.wasmprinter_custom.specs.Spaces.{id_of, outer_of}
 use Rattle.wasmprinter_custom.specs.Views.{name_at}
 use Rattle.wasmprinter_custom.specs.declared.space.Space.{Space}
-use Rattle.wasmprinter_flat.specs.OpenLabels.Scan.{Scan, names_of}
+use Rattle.wasmprinter_flat.specs.OpenLabels.LabelState.{LabelState, names_of}
 use Rattle.wasmprinter_fold.specs.Views.{FolderView, folding_view}
 use Rattle.wasmprinter_sections.specs.declared.module_scope.Scope.{Scope}
 
@@ -27,8 +27,8 @@ abbrev pub function_scope_view : Options → Scope → ℕ → layout.Scope
 function_scope_view o s f = scope_of_function (scope_view o s) f
 
 -- The identifier of an item of the module. It computes to a lookup in the scope's names.
-abbrev pub item_in : Scan → Space → ℕ → Option Named
-item_in s space number = name_in s.synthesizes (name_at s.named) (id_of space) (outer_of space 0) number
+abbrev pub item_in : LabelState → Space → ℕ → Option Named
+item_in s space number = name_in s.synthesizes (name_at s.item_names) (id_of space) (outer_of space 0) number
 
 -- Whether a list has exactly one item.
 abbrev pub is_one : {A : Type 0} → List A → Bool

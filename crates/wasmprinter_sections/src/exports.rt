@@ -4,7 +4,7 @@ ghost use Rattle.wasmprinter_spec.specs.Indexed.{space_of};
 ghost use Rattle.wasmprinter_spec.specs.Layout.Exports.{kind_word, extern_index_pieces, export_parts};
 ghost use Rattle.wasmprinter_spec.specs.Layout.Groups.{line_group_space};
 ghost use Rattle.wasmprinter_wasm.specs.Externs.{kind_view};
-ghost use Rattle.wasmprinter_flat.specs.OpenLabels.Scan.{Scan, names_of};
+ghost use Rattle.wasmprinter_flat.specs.OpenLabels.LabelState.{LabelState, names_of};
 ghost use Rattle.wasmprinter_sections.specs.Scopes.{scope_view, item_in};
 
 use crate::fields::Field;
@@ -32,7 +32,7 @@ pub(crate) fn kind_word(kind: ExternKind) -> &'static str
 
 /// Returns the index space of the exported items of a kind.
 fn space_of(kind: ExternKind) -> Space
-    ensures { (l : Scan) (n : ℕ) → item_in l result n ≡ (names_of l).items (space_of (kind_view kind)) n }
+    ensures { (l : LabelState) (n : ℕ) → item_in l result n ≡ (names_of l).items (space_of (kind_view kind)) n }
 {
     match kind {
         ExternKind::Func => Space::Func,

@@ -34,14 +34,14 @@ pub trait Field {
     fn line_place(&self) -> u64
         ensures { result ≡ line_place self.now };
 
-    /// Writes the contents of the group of the field with the number.
+    /// Writes the contents of the field's group. `number` is the field's index in its index space.
     fn write_parts<O: FoldingOutput>(&self, out: &mut O, scope: &mut Scope<'_, '_>, number: u64)
         ensures pieces { O.wrote out.old out.new
             (parts O.chosen (scope_view O.chosen scope.old) number self.now) }
         ensures scope { scope_view O.chosen scope.new ≡ scope_view O.chosen scope.old };
 }
 
-/// Writes the field with the number, on a line of its own.
+/// Writes a field on a line of its own. `number` is its index in its index space.
 pub(crate) fn write_field<O: FoldingOutput, F: Field>(
     out: &mut O,
     scope: &mut Scope<'_, '_>,
@@ -59,7 +59,7 @@ pub(crate) fn write_field<O: FoldingOutput, F: Field>(
     close_group(out, FIELD_NESTING, outer_begun);
 }
 
-/// Writes the fields of one kind in order. The first of them has the number `first`.
+/// Writes the fields of one kind in order. The first of them has the index `first`.
 pub fn write_each<O: FoldingOutput, F: Field>(
     out: &mut O,
     scope: &mut Scope<'_, '_>,

@@ -97,8 +97,8 @@ fn write_definition<O: FoldingOutput>(
     );
 }
 
-/// Writes function `number` as a group on a line of its own, its operators with these hints. A skeleton leaves out the
-/// body.
+/// Writes the function with the index `number` as a group on a line of its own, its operators with these hints. A
+/// skeleton leaves out the body.
 #[tactic(auto, unfolding(wasmprinter_spec::specs::Layout::Functions::function_pieces, wasmprinter_spec::specs::Layout::Functions::function_group, wasmprinter_spec::specs::Layout::Groups::group_space_at))]
 pub fn write_function<O: FoldingOutput>(
     out: &mut O,

@@ -3,7 +3,7 @@
 ghost use Rattle.std.specs.Prelude.{codes};
 ghost use Rattle.wasmprinter_spec.specs.Layout.Globals.{global_type_pieces, declared_global, global_parts};
 ghost use Rattle.wasmprinter_wasm.specs.Externs.{global_type_view};
-ghost use Rattle.wasmprinter_flat.specs.OpenLabels.Scan.{names_of};
+ghost use Rattle.wasmprinter_flat.specs.OpenLabels.LabelState.{names_of};
 ghost use Rattle.wasmprinter_sections.specs.Scopes.{scope_view};
 
 use crate::expressions::write_constant;

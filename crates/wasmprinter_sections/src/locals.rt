@@ -3,7 +3,7 @@ ghost use Rattle.std.specs.Prelude.{◌≡◌, ◌+◌, ◌<◌, ◌^◌, false,
 ghost use Rattle.wasmprinter_spec.specs.Module.{locals_of};
 ghost use Rattle.wasmprinter_spec.specs.Layout.Functions.{locals_place, local_pieces};
 ghost use Rattle.wasmprinter_ops.specs.ValTypes.{val_type_view};
-ghost use Rattle.wasmprinter_flat.specs.OpenLabels.Scan.{names_of};
+ghost use Rattle.wasmprinter_flat.specs.OpenLabels.LabelState.{names_of};
 ghost use Rattle.wasmprinter_text.specs.Variables.{walk_pieces};
 ghost use Rattle.wasmprinter_text.specs.declared.types.variables.Before.TheVariants.{Line};
 ghost use Rattle.wasmprinter_sections.specs.LocalWalk.{after_one, after_all, local_parts, locals_parts};

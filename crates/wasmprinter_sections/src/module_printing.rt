@@ -2,7 +2,7 @@
 ghost use Rattle.std.specs.Prelude.{◌≡◌, true, IfOk, IfErr};
 ghost use Rattle.wasmprinter_bytes.specs.declared.library_error.Error.TheVariants.{Memory};
 ghost use Rattle.wasmprinter_spec.specs.Options.{Options, Answers, with_color};
-ghost use Rattle.wasmprinter_flat.specs.OpenLabels.Scan.{names_of};
+ghost use Rattle.wasmprinter_flat.specs.OpenLabels.LabelState.{names_of};
 ghost use Rattle.wasmprinter_sections.specs.Endings.{PrintsLaid};
 ghost use Rattle.wasmprinter_sections.specs.Sections.{module_laid, Folds};
 

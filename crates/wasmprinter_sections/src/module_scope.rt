@@ -9,7 +9,7 @@ ghost use Rattle.wasmprinter_spec.specs.Layout.Types.{type_pieces};
 ghost use Rattle.wasmprinter_custom.specs.Shown.{names_of_identifiers};
 ghost use Rattle.wasmprinter_text.specs.Items.{item_of};
 ghost use Rattle.wasmprinter_ops.specs.ValTypes.{ref_view, val_type_view};
-ghost use Rattle.wasmprinter_flat.specs.OpenLabels.Scan.{names_of};
+ghost use Rattle.wasmprinter_flat.specs.OpenLabels.LabelState.{names_of};
 ghost use Rattle.wasmprinter_sections.specs.Scopes.{scope_view, item_in};
 
 use wasmprinter_custom::{Identifiers, Space};

@@ -28,7 +28,7 @@ pub fn write_flat_or_folded<O: FoldingOutput, S: Signatures>(
     ensures pieces { O.wrote out.old out.new (body_by (folding_in O.chosen.folds folder.old) results
         (setting_with_names S.signature_at setting.now labels.old) hints.entry expression.now.items) }
     ensures folder { folder.new ≡ folder.old }
-    ensures named { labels.new.named ≡ labels.old.named }
+    ensures item_names { labels.new.item_names ≡ labels.old.item_names }
     ensures synthesizes { labels.new.synthesizes ≡ labels.old.synthesizes }
 {
     if !out.folds() {

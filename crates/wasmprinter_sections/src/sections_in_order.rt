@@ -4,7 +4,7 @@ ghost use Rattle.std.specs.Prelude.{◌≡◌, ◌++◌, List, None, length};
 ghost use Rattle.wasmprinter_spec.specs.Options.{Answers};
 ghost use Rattle.wasmprinter_spec.specs.Layout.{section_order};
 ghost use Rattle.wasmprinter_spec.specs.Layout.Customs.{parts_at};
-ghost use Rattle.wasmprinter_flat.specs.OpenLabels.Scan.{names_of};
+ghost use Rattle.wasmprinter_flat.specs.OpenLabels.LabelState.{names_of};
 ghost use Rattle.wasmprinter_sections.specs.Scopes.{scope_view};
 ghost use Rattle.wasmprinter_sections.specs.Sections.{sections_parts, whole_parts, Folds};
 

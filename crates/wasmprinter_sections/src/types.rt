@@ -4,7 +4,7 @@ ghost use Rattle.wasmprinter_spec.specs.Types.{all_types};
 ghost use Rattle.wasmprinter_spec.specs.Module.{groups_of};
 ghost use Rattle.wasmprinter_spec.specs.Layout.Groups.{group as group_pieces, numbered_pieces};
 ghost use Rattle.wasmprinter_spec.specs.Layout.Types.{member_pieces, group_pieces_by, type_group_pieces, type_section_pieces};
-ghost use Rattle.wasmprinter_flat.specs.OpenLabels.Scan.{names_of};
+ghost use Rattle.wasmprinter_flat.specs.OpenLabels.LabelState.{names_of};
 ghost use Rattle.wasmprinter_sections.specs.TypeLines.{listed_pieces};
 
 use crate::module_scope::{FIELD_NESTING, Scope, write_type_in};

@@ -7,7 +7,8 @@ use Rattle.wasmprinter_spec.specs.Grammar.{Input, Spans, Grammar, some_is, byte}
 use Rattle.wasmprinter_spec.specs.Name.{u32}
 use Rattle.wasmprinter_spec.specs.Sized.{take_bytes}
 use Rattle.wasmprinter_spec.specs.Lenient.{Lenient, Groups, Follows, StandsWithin, after_part, within, unless_ended, ends_complete, repeat_at}
-use Rattle.wasmprinter_spec.specs.Names.Section.{Entry, content, subsection, subsections, all_of, GivesNames}
+use Rattle.wasmprinter_spec.specs.Types.{concat}
+use Rattle.wasmprinter_spec.specs.Names.Section.{Entry, content, subsection, subsections, GivesNames}
 
 module _ (l : Lenient Entry) where
   repeat_at_end : (n : ℕ) (at : Input) → at.bytes ≡ [] → repeat_at (unless_ended l) n at ≡ ([], Some at)
@@ -16,15 +17,15 @@ module _ (l : Lenient Entry) where
 
   groups_by : (xs : List Entry) (groups : List (List Entry)) (n : ℕ) (at : Input) → 0 < length at.bytes → (end : Option Input) → l.gives at xs end
       → MatchOption end (groups ≡ []) (λ mid. Groups l mid groups)
-      → ((mid : Input) → l.gives at xs (Some mid) → Groups l mid groups → (repeat_at (unless_ended l) n mid).0 ≡ all_of groups)
-      → (repeat_at (unless_ended l) (suc n) at).0 ≡ xs ++ all_of groups
+      → ((mid : Input) → l.gives at xs (Some mid) → Groups l mid groups → (repeat_at (unless_ended l) n mid).0 ≡ concat groups)
+      → (repeat_at (unless_ended l) (suc n) at).0 ≡ xs ++ concat groups
   groups_by xs groups n at lt None s m h =
       rw (ne_eqb (length at.bytes) 0 (λ z. omega (arith, z, lt)), l.complete at xs None s, m) (sym (append-nil xs))
   groups_by xs groups n at lt (Some mid) s m h =
       rw (ne_eqb (length at.bytes) 0 (λ z. omega (arith, z, lt)), l.complete at xs (Some mid) s) (ap (λ (ys : List Entry). xs ++ ys) (h mid s m))
 
   module _ (shrinks : (at mid : Input) (xs : List Entry) → l.gives at xs (Some mid) → length mid.bytes < length at.bytes) where
-    pub groups_read : (groups : List (List Entry)) (n : ℕ) (at : Input) → length at.bytes ≤ n → Groups l at groups → (repeat_at (unless_ended l) n at).0 ≡ all_of groups
+    pub groups_read : (groups : List (List Entry)) (n : ℕ) (at : Input) → length at.bytes ≤ n → Groups l at groups → (repeat_at (unless_ended l) n at).0 ≡ concat groups
     groups_read [] n at le g = ap (λ (r : List Entry × Option Input). r.0) (repeat_at_end n at g)
     groups_read (xs ∷ groups) zero at le g = absurd (omega (arith, g.0, le))
     groups_read (xs ∷ groups) (suc n) at le g =

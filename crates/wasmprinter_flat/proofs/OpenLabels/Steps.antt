@@ -6,7 +6,7 @@ use Rattle.std.specs.List.{All, AllByRecursion, list_any}
 use Rattle.wasmprinter_spec.specs.Labels.{Label, same_name}
 use Rattle.wasmprinter_custom.specs.Views.{NamedItem, name_view}
 use Rattle.wasmprinter_flat.specs.OpenLabels.Found.{found_named, found_among}
-use Rattle.wasmprinter_flat.specs.OpenLabels.Scan.{Scan, after_opening, after_closing}
+use Rattle.wasmprinter_flat.specs.OpenLabels.LabelState.{LabelState, after_opening, after_closing}
 use Rattle.wasmprinter_flat.specs.OpenLabels.Stack.{Block, Stack, depths, AreBelow, Descend, without_block_at, StandsAtDepth, unnamed_label, labels_from}
 use Rattle.wasmprinter_flat.specs.OpenLabels.Numbers.{given_of, AreNumbered}
 use Rattle.wasmprinter_flat.specs.OpenLabels.Inside.{label_of, IsOf, IsKept}
@@ -14,8 +14,8 @@ use Rattle.wasmprinter_flat.specs.declared.open_labels.name_numbers.NumberedLabe
 use Rattle.wasmprinter_flat.proofs.OpenLabels.Cursors.{own_some, own_none, cursor_named, cursor_unnamed, next_is_one}
 use Rattle.wasmprinter_flat.proofs.OpenLabels.Targets.{labels_length, labels_named, labels_unnamed, below_more, below_closed, length_closed, all_closed, unnamed_found, found_at_name, found_unnamed}
 
-abbrev pub scan : List NamedItem → Bool → ℕ → ℕ → List Label → Scan
-scan named synthesizes f n ls = record { named = named; synthesizes = synthesizes; function = f; count = n; labels = ls }
+abbrev pub scan : List NamedItem → Bool → ℕ → ℕ → List Label → LabelState
+scan named synthesizes f n ls = record { item_names = named; synthesizes = synthesizes; function = f; count = n; labels = ls }
 
 abbrev pub block_of : ℕ → NumberedLabel → Block
 block_of d x = record { depth = d; name_number = x.name_number; name = name_view x.label.name }

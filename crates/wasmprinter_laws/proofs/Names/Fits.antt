@@ -5,7 +5,8 @@ use Rattle.wasmprinter_spec.specs.Grammar.{Input, byte}
 use Rattle.wasmprinter_spec.specs.Name.{u32, name}
 use Rattle.wasmprinter_spec.specs.Binary.{AreBytes}
 use Rattle.wasmprinter_spec.specs.Lenient.{give, follow, repeat, within, by_test, Groups}
-use Rattle.wasmprinter_spec.specs.Names.Section.{Entry, entry, entry_of, association, name_map, inner_map, indirect_map, module_name, module_subsection, tag_subsection, is_indirect, entries_by_id, content, subsection, all_of}
+use Rattle.wasmprinter_spec.specs.Types.{concat}
+use Rattle.wasmprinter_spec.specs.Names.Section.{Entry, entry, entry_of, association, name_map, inner_map, indirect_map, module_name, module_subsection, tag_subsection, is_indirect, entries_by_id, content, subsection}
 use Rattle.wasmprinter_spec.proofs.Each.{all_both}
 use Rattle.wasmprinter_laws.specs.NameLaws.{IsEntry, AreEntries, BytesGiveEntries}
 use Rattle.wasmprinter_laws.proofs.AllSpelled.{AllSpelled, Spelled-seq}
@@ -47,11 +48,11 @@ fits_subsection =
     (λ s. AllGiven-follow_any IsEntry u32 (λ size. within (content s) size) (λ size. AllGiven-within IsEntry (content s) (fits_content s) size))
 
 groups_by : (xs : List Entry) (groups : List (List Entry)) (end : Option Input) → AreEntries xs → Stays end → MatchOption end (groups ≡ []) (λ mid. Groups subsection mid groups)
-    → ((mid : Input) → AreBytes mid.bytes → Groups subsection mid groups → AreEntries (all_of groups)) → AreEntries (xs ++ all_of groups)
-groups_by xs groups None s b m h = all_both IsEntry xs (all_of groups) s (subst (λ (gs : List (List Entry)). AreEntries (all_of gs)) (sym m) tt)
-groups_by xs groups (Some mid) s b m h = all_both IsEntry xs (all_of groups) s (h mid b m)
+    → ((mid : Input) → AreBytes mid.bytes → Groups subsection mid groups → AreEntries (concat groups)) → AreEntries (xs ++ concat groups)
+groups_by xs groups None s b m h = all_both IsEntry xs (concat groups) s (subst (λ (gs : List (List Entry)). AreEntries (concat gs)) (sym m) tt)
+groups_by xs groups (Some mid) s b m h = all_both IsEntry xs (concat groups) s (h mid b m)
 
-groups_fit : (groups : List (List Entry)) (at : Input) → AreBytes at.bytes → Groups subsection at groups → AreEntries (all_of groups)
+groups_fit : (groups : List (List Entry)) (at : Input) → AreBytes at.bytes → Groups subsection at groups → AreEntries (concat groups)
 groups_fit [] at b g = tt
 groups_fit (xs ∷ groups) at b (some, end, given, after) =
     let fit = fits_subsection.has at xs end b given in

@@ -14,7 +14,7 @@ use Rattle.wasmprinter_spec.specs.Piece.{Piece, Break, OneSpace, Word}
 use Rattle.wasmprinter_spec.specs.Layout.Groups.{line_group_space, group_space_at}
 use Rattle.wasmprinter_spec.specs.Layout.Variables.{Variables, variable_groups, variables_pieces, groups_pieces}
 use Rattle.wasmprinter_spec.specs.Layout.Declarations.{Scope, scope_of_function, Folding, item_declaration, type_use}
-use Rattle.wasmprinter_spec.specs.Layout.Operators.{OverLines, Setting, operators_pieces}
+use Rattle.wasmprinter_spec.specs.Layout.Operators.{OverLines, Setting, list_pieces}
 use Rattle.wasmprinter_spec.specs.Layout.Folded.{folded_list}
 
 -- The place of the first entry that declares a local, if there is one.
@@ -48,7 +48,7 @@ result_count s type_index = option_map (λ t. length t.results) (signature_at s.
 -- The operators of a body: flat, each operator on a line; or folded, each node on a line, in a function with `own`
 -- results.
 unfoldable pub body_by : Option Folding → Option ℕ → Setting → List (Placed Hint) → List (Placed Operator) → List Piece
-body_by None own s hs os = operators_pieces s hs true 0 [] os
+body_by None own s hs os = list_pieces s hs os
 body_by (Some f) own s hs os = folded_list f own s hs os
 
 -- The operators of a function of the type with this index, with these hints.

@@ -248,6 +248,10 @@ operators_pieces s hs first n xs (o ∷ os) =
     ++ (operator_pieces s first own xs o
     ++ operators_pieces s (hints_after offset hs) false (count_after role n) (labels_after role own xs) os)
 
--- A list of operators, with no label open and without hints.
+-- A whole list of operators with its hints: before the first operator no block was opened.
+abbrev pub list_pieces : Setting → List (Placed Hint) → List (Placed Operator) → List Piece
+list_pieces s hs os = operators_pieces s hs true 0 [] os
+
+-- A whole list of operators without hints.
 unfoldable pub expression_pieces : Setting → List (Placed Operator) → List Piece
-expression_pieces s os = operators_pieces s [] true 0 [] os
+expression_pieces s os = list_pieces s [] os

@@ -3,6 +3,7 @@
 use Rattle.std.specs.Prelude.{◌≡◌, ℕ, List, [], ◌∷◌, ◌++◌, Bool, ◌||◌, ◌==◌, nat_lt}
 use Rattle.wasmprinter_spec.specs.Grammar.{Input, Grammar, byte, seq}
 use Rattle.wasmprinter_spec.specs.Name.{u32, name}
+use Rattle.wasmprinter_spec.specs.Types.{concat}
 use Rattle.wasmprinter_spec.specs.Lenient.{Lenient, give, follow, one, repeat, within, by_test, unless_ended, Groups}
 
 -- ---- The ids of subsections
@@ -107,11 +108,6 @@ subsection = follow byte (λ s. follow u32 (λ size. within (content s) size))
 abbrev pub subsections : ℕ → Lenient Entry
 subsections n = repeat (unless_ended subsection) n
 
--- The lists joined, in order.
-abbrev pub all_of : List (List Entry) → List Entry
-all_of [] = []
-all_of (xs ∷ groups) = xs ++ all_of groups
-
 -- The data of a name section gives these entries.
 abbrev pub GivesNames : Input → List Entry → Type 0
-GivesNames at entries = (groups : List (List Entry)) × Groups subsection at groups × (entries ≡ all_of groups)
+GivesNames at entries = (groups : List (List Entry)) × Groups subsection at groups × (entries ≡ concat groups)

@@ -19,8 +19,8 @@ returns-then-has_failed-clause-pieces g c =
     (rw c.depth-depth.ensures at c.level-level.ensures) c.start_operator.ensures c.write_operator_word.ensures) _
     (g.met.O.Output.pieces_skipped _ _ (sym c.has_failed.ensures ∙ c.if-has_failed.true))
 
-pub returns-then-has_failed-clause-named : goal.returns-then-has_failed-clause-named
-returns-then-has_failed-clause-named g c = c.loop-place.invariant.named
+pub returns-then-has_failed-clause-item_names : goal.returns-then-has_failed-clause-item_names
+returns-then-has_failed-clause-item_names g c = c.loop-place.invariant.item_names
 
 pub returns-then-has_failed-clause-synthesizes : goal.returns-then-has_failed-clause-synthesizes
 returns-then-has_failed-clause-synthesizes g c = c.loop-place.invariant.synthesizes
@@ -31,8 +31,8 @@ advance-requires g c = has_count g.O.Output.wrote c.loop-place.invariant _ _ c.i
 pub returns-clause-pieces : goal.returns-clause-pieces
 returns-clause-pieces g c = all_written g.O.Output.wrote c.loop-place.invariant (g.met.O.Output.no_piece _) c.in-None.ensures.steps.0
 
-pub returns-clause-named : goal.returns-clause-named
-returns-clause-named g c = c.loop-place.invariant.named
+pub returns-clause-item_names : goal.returns-clause-item_names
+returns-clause-item_names g c = c.loop-place.invariant.item_names
 
 pub returns-clause-synthesizes : goal.returns-clause-synthesizes
 returns-clause-synthesizes g c = c.loop-place.invariant.synthesizes

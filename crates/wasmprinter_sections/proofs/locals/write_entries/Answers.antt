@@ -1,5 +1,5 @@
 use Rattle.std.proofs.Common.{◌≡◌, ◌∙◌, sym, ap, length, replicate, arith}
-use Rattle.wasmprinter_flat.specs.OpenLabels.Scan.{names_of}
+use Rattle.wasmprinter_flat.specs.OpenLabels.LabelState.{names_of}
 use Rattle.wasmprinter_sections.specs.LocalWalk.{after_all}
 use Rattle.wasmprinter_sections.proofs.LocalLines.{entries-next, entries-none, after_times-number}
 use Rattle.wasmprinter_sections.proofs.locals.write_entries.Goals as goal

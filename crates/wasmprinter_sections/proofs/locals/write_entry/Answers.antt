@@ -1,5 +1,5 @@
 use Rattle.std.proofs.Common.{◌≡◌, ◌-◌, ◌<◌, ◌≤◌, sym, ap, ◌∙◌, arith, replicate}
-use Rattle.wasmprinter_flat.specs.OpenLabels.Scan.{names_of}
+use Rattle.wasmprinter_flat.specs.OpenLabels.LabelState.{names_of}
 use Rattle.wasmprinter_sections.specs.LocalWalk.{after_all, locals_parts}
 use Rattle.wasmprinter_sections.proofs.LocalLines.{times-next, times-none, after_times-next, after_times-none}
 use Rattle.wasmprinter_sections.proofs.locals.write_entry.Goals as goal

@@ -1,5 +1,5 @@
 use Rattle.std.proofs.Common.{sym, ◌∙◌}
-use Rattle.wasmprinter_flat.specs.OpenLabels.Scan.{names_of}
+use Rattle.wasmprinter_flat.specs.OpenLabels.LabelState.{names_of}
 use Rattle.wasmprinter_sections.proofs.LocalLines.{locals-none, locals-some}
 use Rattle.wasmprinter_sections.proofs.locals.write_locals.Goals as goal
 

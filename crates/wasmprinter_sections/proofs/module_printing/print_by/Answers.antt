@@ -1,6 +1,6 @@
 use Rattle.std.specs.Prelude.{Some, None}
 use Rattle.std.proofs.Common.{rules}
-use Rattle.wasmprinter_flat.specs.OpenLabels.Scan.{names_of}
+use Rattle.wasmprinter_flat.specs.OpenLabels.LabelState.{names_of}
 use Rattle.wasmprinter_sections.proofs.WholeModule.{printed}
 use Rattle.wasmprinter_sections.proofs.module_printing.print_by.Goals as goal
 

@@ -1,6 +1,6 @@
 use Rattle.std.proofs.Common.{false}
 use Rattle.wasmprinter_spec.specs.Options.{with_color}
-use Rattle.wasmprinter_flat.specs.OpenLabels.Scan.{names_of}
+use Rattle.wasmprinter_flat.specs.OpenLabels.LabelState.{names_of}
 use Rattle.wasmprinter_sections.specs.Sections.{module_laid}
 use Rattle.wasmprinter_sections.proofs.WholeModule.{stops_first}
 use Rattle.wasmprinter_sections.proofs.module_printing.print_module.Goals as goal

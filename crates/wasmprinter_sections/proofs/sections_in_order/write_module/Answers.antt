@@ -1,4 +1,4 @@
-use Rattle.wasmprinter_flat.specs.OpenLabels.Scan.{names_of}
+use Rattle.wasmprinter_flat.specs.OpenLabels.LabelState.{names_of}
 use Rattle.wasmprinter_sections.specs.Sections.{inner_parts}
 use Rattle.wasmprinter_sections.proofs.Folding.{folding-of}
 use Rattle.wasmprinter_sections.proofs.ModuleParts.{module_walk}
@@ -12,7 +12,7 @@ returns g c folds =
     let m = c.args.module.now in
     let (first, several, many, written) = rw (c.imported_count.ensures.is, folding-of o c.args.folder m folds) at c.write_sections.ensures in
     let (answers, same) = module_walk o names m first several many in
-    let parts = law.part_then _ _ _ _ _ (law.part_of _ _ _ (rw (c.module.ensures, c.identifiers.ensures.named) at c.write_leading_id_and_name.ensures))
+    let parts = law.part_then _ _ _ _ _ (law.part_of _ _ _ (rw (c.module.ensures, c.identifiers.ensures.item_names) at c.write_leading_id_and_name.ensures))
     (rw same at written) in (
       answers,
       law.part_then _ _ _ _ _ (law.part_of _ _ _ c.start_first_line.ensures) (law.part_then _ _ _ _ _ (law.part_of _ _ _ c.open_group.ensures)

@@ -1,6 +1,6 @@
 use Rattle.std.specs.Prelude.{◌≡◌, length}
 use Rattle.std.proofs.Common.{ap, arith, ◌∙◌, sym}
-use Rattle.wasmprinter_flat.specs.OpenLabels.Scan.{names_of}
+use Rattle.wasmprinter_flat.specs.OpenLabels.LabelState.{names_of}
 use Rattle.wasmprinter_sections.proofs.TypeFields.{groups-next, groups-none, after-next}
 use Rattle.wasmprinter_sections.proofs.types.write_type_groups.Goals as goal
 

@@ -1,6 +1,6 @@
 use Rattle.std.specs.Prelude.{length}
 use Rattle.std.proofs.Common.{ap, arith, sym, ◌∙◌}
-use Rattle.wasmprinter_flat.specs.OpenLabels.Scan.{names_of}
+use Rattle.wasmprinter_flat.specs.OpenLabels.LabelState.{names_of}
 use Rattle.wasmprinter_sections.specs.TypeLines.{listed_pieces}
 use Rattle.wasmprinter_sections.proofs.TypeFields.{types-none, types-next}
 use Rattle.wasmprinter_sections.proofs.types.write_types.Goals as goal

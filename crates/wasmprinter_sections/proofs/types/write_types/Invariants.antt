@@ -1,6 +1,6 @@
 use Rattle.std.proofs.Common.{◌≡◌, ◌+◌, length}
 use Rattle.wasmprinter_spec.specs.Layout.Groups.{numbered_pieces}
-use Rattle.wasmprinter_flat.specs.OpenLabels.Scan.{names_of}
+use Rattle.wasmprinter_flat.specs.OpenLabels.LabelState.{names_of}
 use Rattle.wasmprinter_sections.specs.TypeLines.{listed_pieces}
 use Rattle.wasmprinter_sections.proofs.types.write_types.Given as goal
 

@@ -67,7 +67,7 @@ returns g c =
     let answers = laid.0 in
     let start = c.in_ok-labels.ensures.start in
     let synthesizes = ap (λ s. s.synthesizes) start ∙ ap (λ i. i.options.synthesizes) c.self-inside.view_is ∙ ap (λ o. o.synthesizes) c.self.view_is in
-    let ended = own_ended printer colors o decoded foldable answers r c.in_ok-labels.labels c.in_ok-names.names (ap (λ s. s.named) start) synthesizes c.in_ok-names.ensures.names laid.1 in
+    let ended = own_ended printer colors o decoded foldable answers r c.in_ok-labels.labels c.in_ok-names.names (ap (λ s. s.item_names) start) synthesizes c.in_ok-names.ensures.names laid.1 in
     record {
       printed = ended_printed printer colors o decoded foldable answers r ended;
       refused = ended_refusal printer colors o decoded foldable answers r ended;

@@ -15,4 +15,4 @@ returns-in-Some g c =
 pub returns-in-None : goal.returns-in-None
 returns-in-None g c =
     let l = c.args.self.now.labels.now in
-    item-unnamed l.synthesizes (name_at l.named) c.args.self.now.setting.now.function (space_view c.args.space) c.args.index (ap (option_map id_of) (sym c.in-None.is) ∙ c.named_space.ensures)
+    item-unnamed l.synthesizes (name_at l.item_names) c.args.self.now.setting.now.function (space_view c.args.space) c.args.index (ap (option_map id_of) (sym c.in-None.is) ∙ c.named_space.ensures)

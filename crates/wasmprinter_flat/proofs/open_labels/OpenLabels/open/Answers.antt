@@ -1,5 +1,5 @@
 use Rattle.std.proofs.Common.{sym, ap, ◌∙◌, arith, add-one, length, ◌<◌}
-use Rattle.wasmprinter_flat.specs.OpenLabels.Scan.{after_opening}
+use Rattle.wasmprinter_flat.specs.OpenLabels.LabelState.{after_opening}
 use Rattle.wasmprinter_flat.proofs.OpenLabels.Steps.{kept_unnamed, scan_unnamed, has_room, has_number, not_last, kept_named, scan_named}
 use Rattle.wasmprinter_flat.proofs.open_labels.OpenLabels.open.Goals as goal
 

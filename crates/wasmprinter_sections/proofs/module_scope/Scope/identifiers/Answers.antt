@@ -6,6 +6,6 @@ use Rattle.wasmprinter_sections.proofs.module_scope.Scope.identifiers.Goals as g
 
 pub returns : goal.returns
 returns c = record {
-  all = ap₂ (λ synthesizes named. names_by synthesizes (name_at named)) c.identifiers.ensures.synthesizes c.identifiers.ensures.named;
-  items = λ space n. ap₂ (λ synthesizes named. name_in synthesizes (name_at named) (id_of space) (outer_of space 0) n) c.identifiers.ensures.synthesizes c.identifiers.ensures.named;
+  all = ap₂ (λ synthesizes named. names_by synthesizes (name_at named)) c.identifiers.ensures.synthesizes c.identifiers.ensures.item_names;
+  items = λ space n. ap₂ (λ synthesizes named. name_in synthesizes (name_at named) (id_of space) (outer_of space 0) n) c.identifiers.ensures.synthesizes c.identifiers.ensures.item_names;
 }
