@@ -5,7 +5,7 @@ Blocks (tools/documents/blocks.py). Each block of the pages in `SOURCES` occurs 
 indentation. In a file of rows the texts count, which are after `|`. Two texts side by side count as two blocks. `use` lines before code of Rattle
 may be put together in the file, and attributes are left out of code. Each line of a block of commands is in `COMMANDS`, with the reason why no test
 compares its output, or is `printf '..' >FILE` with the bytes of the row that the page shows. Each message in README's table of messages is typed
-in a test, where `..` stands for any text.
+in a test, where `..` stands for any text. Each example in a documentation comment of crates/wasmprinter/src is in `DOC_EXAMPLES`, line by line.
 
 Numbers (tools/documents/numbers.py). Each number that a pattern of `numbers` finds in a page equals the number computed from the repository. Each
 pattern finds at least one. Numbers of measurements are not checked, nor numbers in the pages of `HISTORY`.
@@ -26,7 +26,7 @@ import sys
 sys.dont_write_bytecode = True
 sys.path.append(str(pathlib.Path(__file__).resolve().parent / "definitions"))
 
-from documents.blocks import SOURCES, block_faults, blocks, message_faults  # noqa: E402
+from documents.blocks import DOC_EXAMPLES, SOURCES, block_faults, blocks, comment_blocks, example_faults, message_faults  # noqa: E402
 from documents.links import link_faults, path_faults  # noqa: E402
 from documents.numbers import matches, number_faults, numbers, value_of  # noqa: E402
 from documents.tree import Missing, Tree  # noqa: E402
@@ -38,7 +38,8 @@ WRONG_LINKS = ((r"\]\((?!\w+:)", "](x", link_faults), (r"(?<=\.md#)", "x", link_
 def check(tree):
     """Returns the faults of the documents, and how much was checked."""
     found, summary = [], []
-    checks = (("blocks", block_faults, SOURCES), ("messages", message_faults, ["README.md"]), ("links", link_faults, tree.pages))
+    checks = (("blocks", block_faults, SOURCES), ("examples", example_faults, tree.matching("crates/wasmprinter/src/*.rt")), ("messages", message_faults, ["README.md"]))
+    checks = (*checks, ("links", link_faults, tree.pages))
     for what, faults_of, pages in (*checks, ("paths", path_faults, tree.pages), ("numbers", number_faults, [None])):
         checked = 0
         for page in pages:
@@ -63,6 +64,8 @@ def mistakes(tree):
             for at, old, new in changes:
                 wrong = re.sub(old, new, tree.lines(page)[at], count=1)
                 made.append((page, "\n".join([*tree.lines(page)[:at], wrong, *tree.lines(page)[at + 1 :]]), block_faults, page))
+    for path in tree.matching("crates/wasmprinter/src/*.rt"):
+        made += [(DOC_EXAMPLES, tree.text(DOC_EXAMPLES).replace(lines[-1].strip(), "x"), example_faults, path) for _, lines in comment_blocks(tree.lines(path))]
     for row in numbers(tree):
         for page, match in matches(tree, row[0]):
             start, end = match.span("number")

@@ -19,6 +19,7 @@ SOURCES = {
     ),
     "CONTRIBUTING.md": ("crates/wasmprinter_flat/src/indices.rt", "crates/wasmprinter_custom/must-fail/identifier-is-the-raw-name.edit"),
 }
+DOC_EXAMPLES = "crates/tests_modules/src/doc_examples.rt"  # tests with the examples of documentation comments
 MESSAGES = ("bindings/cases.txt", "bindings/c/test.c", "tools/program.sh", "crates/printwasm/src/program_tests.rt")  # tests with typed messages
 
 PROVES = "proves, tests or builds, as the gate does"
@@ -163,6 +164,23 @@ def block_faults(tree, page):
     for number, lines in parts:
         found += command_faults(tree, page, number, lines, shown) if SHELL.match(lines[0]) else code_faults(tree, page, number, lines)
     return found, len(parts)
+
+
+def comment_blocks(lines):
+    """Returns the blocks between fences in the documentation comments of a source file: the number of the first line, and the lines."""
+    texts = [line.strip()[3:].removeprefix(" ") if line.strip().startswith("///") else "" for line in lines]
+    return [(number, block) for number, block in blocks(texts) if texts[number - 2].strip() == "```"]
+
+
+def example_faults(tree, path):
+    """Returns the examples in the documentation comments of a source file that no test has, and the number of examples."""
+    found, source = [], source_lines(tree, DOC_EXAMPLES)
+    examples = comment_blocks(tree.lines(path))
+    for number, lines in examples:
+        start, same = nearest(lines, [line for _, line in source])
+        if same < len(lines):
+            found.append(f"{path}:{number + same}: `{lines[same].strip()}`, but {DOC_EXAMPLES}:{source[start][0] + same} differs")
+    return found, len(examples)
 
 
 def message_faults(tree, page):

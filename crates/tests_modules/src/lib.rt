@@ -8,6 +8,8 @@ mod customs;
 #[cfg(test)]
 mod decoding;
 #[cfg(test)]
+mod doc_examples;
+#[cfg(test)]
 mod example;
 #[cfg(test)]
 mod hints;

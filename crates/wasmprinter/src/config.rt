@@ -47,6 +47,15 @@ impl Config {
     /// Sets whether each line after the first begins with its place: a byte offset from the start of the module,
     /// in hexadecimal and in a comment such as `(;@1f    ;)`. A line without a place begins with that many spaces
     /// instead. Allocates nothing.
+    ///
+    /// With a module `IDENTITY` whose only function returns its parameter:
+    ///
+    /// ```
+    /// let mut config = Config::new();
+    /// config.print_offsets(true);
+    /// let text = config.print_to_string(rt.alloc(), IDENTITY)?;
+    /// assert!(rt; text.lines().nth(4) == Some("(;@20    ;)    local.get 0"));
+    /// ```
     pub fn print_offsets(&mut self, print: bool) -> &mut Self
         ensures itself { result.ghost_name ≡ self.entry.ghost_name }
         ensures options { result.now ≡ record self.old { offsets = print } }
@@ -57,6 +66,16 @@ impl Config {
 
     /// Sets whether bodies, items of element segments, and bytes of data segments and custom sections are left
     /// out. Allocates nothing.
+    ///
+    /// With a module `IDENTITY` whose only function returns its parameter:
+    ///
+    /// ```
+    /// let mut config = Config::new();
+    /// config.print_skeleton(true);
+    /// let text = config.print_to_string(rt.alloc(), IDENTITY)?;
+    /// let line = text.lines().nth(3);
+    /// assert!(rt; line == Some("  (func (;0;) (type 0) (param i32) (result i32) ...)"));
+    /// ```
     pub fn print_skeleton(&mut self, print: bool) -> &mut Self
         ensures itself { result.ghost_name ≡ self.entry.ghost_name }
         ensures options { result.now ≡ record self.old { skeleton = print } }
@@ -66,6 +85,15 @@ impl Config {
     }
 
     /// Sets whether identifiers are synthesized for items without a name, for example `$#func3`. Allocates nothing.
+    ///
+    /// With a module `IDENTITY` whose only function returns its parameter:
+    ///
+    /// ```
+    /// let mut config = Config::new();
+    /// config.name_unnamed(true);
+    /// let text = config.print_to_string(rt.alloc(), IDENTITY)?;
+    /// assert!(rt; text.lines().nth(4) == Some("    local.get $#local0"));
+    /// ```
     pub fn name_unnamed(&mut self, name: bool) -> &mut Self
         ensures itself { result.ghost_name ≡ self.entry.ghost_name }
         ensures options { result.now ≡ record self.old { synthesizes = name } }
@@ -76,6 +104,15 @@ impl Config {
 
     /// Sets whether operators are folded: each operator is printed in parentheses with its operands (section 6.5,
     /// "Folded Instructions"), in bodies and in constant expressions. Allocates nothing.
+    ///
+    /// With a module `IDENTITY` whose only function returns its parameter:
+    ///
+    /// ```
+    /// let mut config = Config::new();
+    /// config.fold_instructions(true);
+    /// let text = config.print_to_string(rt.alloc(), IDENTITY)?;
+    /// assert!(rt; text.lines().nth(4) == Some("    (local.get 0)"));
+    /// ```
     pub fn fold_instructions(&mut self, fold: bool) -> &mut Self
         ensures itself { result.ghost_name ≡ self.entry.ghost_name }
         ensures options { result.now ≡ record self.old { folds = fold } }
@@ -89,6 +126,15 @@ impl Config {
     ///
     /// The text is printed unchanged. If it has characters other than spaces and tabs, the printed module is not
     /// guaranteed to read back.
+    ///
+    /// With a module `IDENTITY` whose only function returns its parameter:
+    ///
+    /// ```
+    /// let mut config = Config::new();
+    /// config.indent_text(String::from_str(rt.alloc(), "\t")?);
+    /// let text = config.print_to_string(rt.alloc(), IDENTITY)?;
+    /// assert!(rt; text.lines().nth(4) == Some("\t\tlocal.get 0"));
+    /// ```
     pub fn indent_text(&mut self, text: String) -> &mut Self
         ensures itself { result.ghost_name ≡ self.entry.ghost_name }
         ensures options { result.now ≡ record self.old { indent = string_bytes text } }
@@ -116,6 +162,12 @@ impl Config {
     ///
     /// The printer is asked whether it claims each custom section, `name` and `metadata.code.branch_hint` included.
     /// A claimed section is not printed; its names and hints still apply.
+    ///
+    /// ```
+    /// let mut printer = PrintIoWrite(Vec::new(rt.alloc()));
+    /// Config::new().print(rt.alloc(), b"\0asm\x01\0\0\0", &mut printer)?;
+    /// assert!(rt; printer.0.as_slice() == b"(module)\n".as_slice());
+    /// ```
     ///
     /// # Errors
     ///

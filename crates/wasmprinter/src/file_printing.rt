@@ -13,6 +13,13 @@ use wasmprinter_bytes::Error;
 /// Returns the text of the module in a file, with the default options. The text is that of the bytes that the
 /// source returns for exactly this path.
 ///
+/// If `module.wasm` has the bytes of a module without fields:
+///
+/// ```
+/// let text = print_file(&rt, rt.alloc(), Path::new("module.wasm"))?;
+/// assert!(rt; text.as_str() == "(module)\n");
+/// ```
+///
 /// # Errors
 ///
 /// - `Unreadable`: the file can't be read. If an allocation fails during reading, this error is returned too.

@@ -61,6 +61,15 @@ impl Config {
     /// the module. Each line ends with its line feed. The old text of `storage` stays before the first line and is
     /// part of no line. Iterating allocates nothing.
     ///
+    /// With a module `IDENTITY` whose only function returns its parameter:
+    ///
+    /// ```
+    /// let mut storage = String::new(rt.alloc());
+    /// let mut lines = Config::new().offsets_and_lines(rt.alloc(), IDENTITY, &mut storage)?;
+    /// assert!(rt; lines.next() == Some((Some(0), "(module\n")));
+    /// assert!(rt; lines.nth(3) == Some((Some(0x20), "    local.get 0\n")));
+    /// ```
+    ///
     /// # Errors
     ///
     /// The errors of [`Config::print_to_string`]. `storage` then begins with its old text, and a prefix of the

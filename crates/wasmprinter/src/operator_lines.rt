@@ -17,6 +17,16 @@ use wasmprinter_wasm::Module;
 /// Returns `None` if the function or the operator does not exist, or if no line begins with the operator's place.
 /// Every operator is found in the complete lines that `Config::offsets_and_lines` returned for this module, if its
 /// bodies were printed flat. Allocates nothing.
+///
+/// With a module `IDENTITY` whose only function returns its parameter:
+///
+/// ```
+/// let mut storage = String::new(rt.alloc());
+/// let text = Config::new().offsets_and_lines(rt.alloc(), IDENTITY, &mut storage)?;
+/// let lines: Vec<(Option<u64>, &str)> = text.collect(rt.alloc())?;
+/// let module = decode(rt.alloc(), IDENTITY)?;
+/// assert!(rt; place_of(&module, &lines, 0, 0) == Some((4, 0x20)));
+/// ```
 pub fn place_of(
     module: &Module<'_>,
     lines: &[(Option<u64>, &str)],

@@ -24,6 +24,15 @@ pub(crate) fn without_printer(error: Error) -> Error
 impl Config {
     /// Returns the text of a module in the binary format.
     ///
+    /// With a module `IDENTITY` whose only function returns its parameter:
+    ///
+    /// ```
+    /// let mut config = Config::new();
+    /// config.print_offsets(true).fold_instructions(true);
+    /// let text = config.print_to_string(rt.alloc(), IDENTITY)?;
+    /// assert!(rt; text.lines().nth(4) == Some("(;@20    ;)    (local.get 0)"));
+    /// ```
+    ///
     /// # Errors
     ///
     /// The errors of [`Config::print`], except that `Printer` is never returned. `Memory` is also returned if the
@@ -43,8 +52,10 @@ impl Config {
 
 /// Returns the text of a module in the binary format, with the default options.
 ///
-/// For example, `print_bytes(alloc, b"\0asm\x01\0\0\0")` returns the text of the module without fields: `(module)`
-/// and a line feed.
+/// ```
+/// let text = print_bytes(rt.alloc(), b"\0asm\x01\0\0\0")?;
+/// assert!(rt; text.as_str() == "(module)\n");
+/// ```
 ///
 /// # Errors
 ///
