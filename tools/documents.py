@@ -32,7 +32,7 @@ from documents.numbers import matches, number_faults, numbers, value_of  # noqa:
 from documents.tree import Missing, Tree  # noqa: E402
 
 # Mistakes in links, in anchors and in paths: expressions, what is put in their places, and the check that finds the mistake
-WRONG_LINKS = ((r"\]\((?!\w+:)", "](x", link_faults), (r"(?<=\.md#)", "x", link_faults), (r"(?<=`)(?=crates/|tools/|docs/)", "x", path_faults))
+WRONG_LINKS = ((r"\]\((?!\w+:)", "](x", link_faults), (r"(?<=\.md#)", "x", link_faults), (r"(?<=`)(?=crates/|tools/|docs/)(?!crates/\w+/out)", "x", path_faults))
 
 
 def check(tree):
