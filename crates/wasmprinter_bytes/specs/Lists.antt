@@ -1,9 +1,9 @@
 -- Values that are read one after the other, and reading that may allocate.
-use Rattle.std.specs.Prelude.{◌≡◌, ℕ, ◌<◌, List, Option, Some, None, IsSome, Result, Ok, Err}
+use Rattle.std.specs.Prelude.{◌≡◌, ℕ, ◌<◌, ◌≤◌, List, Option, Some, None, IsSome, Result, Ok, Err}
 use Rattle.wasmprinter_spec.specs.Grammar.{Input, ◌>>=◌}
 use Rattle.wasmprinter_spec.specs.Name.{u32}
 use Rattle.wasmprinter_spec.specs.Repeated.{items_at}
-use Rattle.wasmprinter_bytes.specs.Reads.{IsPlaceIn}
+use Rattle.wasmprinter_bytes.specs.Reads.{IsPlaceIn, end_of}
 use Rattle.wasmprinter_bytes.specs.declared.library_error.Error.{Error}
 use Rattle.wasmprinter_bytes.specs.Reasons.{Reasons, HasReason}
 
@@ -39,10 +39,32 @@ reader_reasons nothing grows at = record {
   memory = grows;
 }
 
--- `Takes view parse Grows old result new`: if `result` is `Ok x`, `parse` at the position `old` gives `view x` and
--- the position `new`. If it is `Malformed`, `parse` gives nothing, and the place is not before the position `old` and
--- not after the end of the bytes. If it is `Memory`, `Grows old` holds. No other error occurs. This is `Decodes`,
--- without `end` and `forward`, for a reader that may allocate. The place of an error is only bounded here; tests check it.
-abbrev pub Takes : {X A : Type 0} → (X → A) → (Input → Option (A × Input)) → (Input → Type 0) → Input → Result X Error → Input → Type 0
-Takes view parse Grows old (Ok x) new = parse old ≡ Some (view x, new)
-Takes view parse Grows old (Err e) new = HasReason (reader_reasons (parse old ≡ None) (Grows old) old) e
+-- A reader of a grammar, for a value whose reading may allocate.
+pub record Reader (A : Type 0) : Type 1 where
+  -- The value at a position, and the position after it; or nothing if the bytes do not encode a value.
+  pub parse : Input → Option (A × Input)
+  -- The condition on a position under which reading the value from there may allocate.
+  pub grows : Input → Type 0
+
+-- The reader `parse`, which may allocate at the positions where `grows` holds.
+abbrev pub reader : {A : Type 0} → (Input → Option (A × Input)) → (Input → Type 0) → Reader A
+reader parse grows = record { parse = parse; grows = grows }
+
+-- If `result` is `Ok x`, the reader at the position `old` gives `view x` and the position `new`. If it is
+-- `Malformed`, the reader gives nothing, and the place is not before the position `old` and not after the end of the
+-- bytes. If it is `Memory`, the reader may allocate at `old`. No other error occurs. The place of an error is only
+-- bounded here; tests check it.
+abbrev pub ReadsOrFails : {X A : Type 0} → (X → A) → Reader A → Input → Result X Error → Input → Type 0
+ReadsOrFails view by old (Ok x) new = by.parse old ≡ Some (view x, new)
+ReadsOrFails view by old (Err e) new = HasReason (reader_reasons (by.parse old ≡ None) (by.grows old) old) e
+
+-- The call reads a value by the reader `by` at the position `old`, returns `result`, and leaves the cursor at `new`.
+-- `view` maps a value of the program to that of the definitions. This is `Decodes` for a value whose reading may
+-- allocate.
+pub record Takes {X A : Type 0} (view : X → A) (by : Reader A) (old : Input) (result : Result X Error) (new : Input) : Type 0 where
+  -- The value and the position `new` are those of the reader, or the error has its reason.
+  pub reads : ReadsOrFails view by old result new
+  -- The bytes end where they ended before.
+  pub end : end_of new ≡ end_of old
+  -- The cursor only moves forward.
+  pub forward : old.place ≤ new.place

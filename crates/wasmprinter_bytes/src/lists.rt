@@ -1,8 +1,7 @@
 //! Values that can be read from bytes, and lists of them in memory (section 5.1 of the WebAssembly Core Specification,
 //! "Lists"): a count, and that many values.
-ghost use Rattle.std.specs.Prelude.{◌≡◌, ◌≤◌};
-ghost use Rattle.wasmprinter_bytes.specs.Reads.{Decodes, end_of};
-ghost use Rattle.wasmprinter_bytes.specs.Lists.{Takes, CountsItems, BeginsList, vec_at};
+ghost use Rattle.wasmprinter_bytes.specs.Reads.{Decodes};
+ghost use Rattle.wasmprinter_bytes.specs.Lists.{Takes, reader, CountsItems, BeginsList, vec_at};
 
 use crate::cursor::Cursor;
 use crate::{Error, Malformed};
@@ -55,9 +54,7 @@ pub fn read_list<'a, T: DecodeIn<'a>>(
     alloc: Global,
     cursor: &mut Cursor<'a>,
 ) -> Result<Vec<T>, Error>
-    ensures reads { Takes (λ v. v.items) (vec_at T.parse) (BeginsList T.parse) cursor.old result cursor.new }
-    ensures end { end_of cursor.new ≡ end_of cursor.old }
-    ensures forward { cursor.old.place ≤ cursor.new.place }
+    ensures { Takes (λ v. v.items) (reader (vec_at T.parse) (BeginsList T.parse)) cursor.old result cursor.new }
 {
     let count = cursor.u32()?;
     let mut values = Vec::new(alloc);
@@ -80,9 +77,7 @@ pub trait GrownIn<'a>: Drop {
 
     /// Reads the value at the cursor.
     fn read(alloc: Global, cursor: &mut Cursor<'a>) -> Result<Self, Error>
-        ensures reads { Takes (λ x. x) parse grows cursor.old result cursor.new }
-        ensures end { end_of cursor.new ≡ end_of cursor.old }
-        ensures forward { cursor.old.place ≤ cursor.new.place };
+        ensures { Takes (λ x. x) (reader parse grows) cursor.old result cursor.new };
 }
 
 /// Reads a count and that many values for which reading may allocate, and returns the values in memory.
@@ -96,9 +91,7 @@ pub fn read_grown_list<'a, T: GrownIn<'a>>(
     alloc: Global,
     cursor: &mut Cursor<'a>,
 ) -> Result<Vec<T>, Error>
-    ensures reads { Takes (λ v. v.items) (vec_at T.parse) CountsItems cursor.old result cursor.new }
-    ensures end { end_of cursor.new ≡ end_of cursor.old }
-    ensures forward { cursor.old.place ≤ cursor.new.place }
+    ensures { Takes (λ v. v.items) (reader (vec_at T.parse) CountsItems) cursor.old result cursor.new }
 {
     let count = cursor.u32()?;
     let mut grown = Vec::new(alloc);

@@ -4,7 +4,7 @@ ghost use Rattle.std.specs.Prelude.{◌≡◌, ◌↔◌, ◌<◌, ◌≤◌, �
 ghost use Rattle.wasmprinter_spec.specs.Instructions.{expression, roles};
 ghost use Rattle.wasmprinter_spec.specs.Nesting.{Nests, Sequence};
 ghost use Rattle.wasmprinter_bytes.specs.Reads.{end_of};
-ghost use Rattle.wasmprinter_bytes.specs.Lists.{Takes};
+ghost use Rattle.wasmprinter_bytes.specs.Lists.{Takes, reader};
 ghost use Rattle.wasmprinter_ops.specs.Operators.{SkipsOperators, ReachesBlock};
 
 use crate::nesting::{Blocks, Step};
@@ -103,9 +103,7 @@ impl<'a> Expression<'a> {
     ///   [`Error::Malformed`](wasmprinter_bytes::Error::Malformed) describes it.
     /// - `Memory` if an allocation fails. Nothing is allocated before an operator opens a block.
     pub fn read(alloc: Global, cursor: &mut Cursor<'a>) -> Result<Self, Error>
-        ensures reads { Takes (λ e. e) expression.parse ReachesBlock cursor.old result cursor.new }
-        ensures end { end_of cursor.new ≡ end_of cursor.old }
-        ensures forward { cursor.old.place ≤ cursor.new.place }
+        ensures { Takes (λ e. e) (reader expression.parse ReachesBlock) cursor.old result cursor.new }
     {
         let start = cursor.fork();
         let end = skip_operators(alloc, cursor)?;

@@ -10,7 +10,7 @@ use Rattle.wasmprinter_spec.specs.Instructions.{expression, constant}
 use Rattle.wasmprinter_spec.specs.Types.{TableType}
 use Rattle.wasmprinter_spec.specs.Binary.Tables.{table_type, table_by, table}
 use Rattle.wasmprinter_bytes.specs.Reads.{end_of}
-use Rattle.wasmprinter_bytes.specs.Lists.{Takes, reader_reasons}
+use Rattle.wasmprinter_bytes.specs.Lists.{ReadsOrFails, reader, reader_reasons}
 use Rattle.wasmprinter_bytes.specs.Reasons.{HasReason}
 use Rattle.wasmprinter_ops.specs.Operators.{ReachesBlock}
 use Rattle.wasmprinter_wasm.specs.Growing.{TableGrows}
@@ -96,7 +96,7 @@ plain_entry at b s ne =
 
 -- An entry whose first byte is 40 is a table with an initialiser.
 pub initialised_entry : {X : Type 0} (view : X → Placed (Table (Placed Operator))) (at new : Input) (b : ℕ) → slice_get at.bytes 0 ≡ Some b → b ≡ 0x40 → (r : Result X Error)
-    → Takes view (value_with_place (table_by 0x40)).parse TableGrows at r new → Takes view (value_with_place table).parse TableGrows at r new
+    → ReadsOrFails view (reader (value_with_place (table_by 0x40)).parse TableGrows) at r new → ReadsOrFails view (reader (value_with_place table).parse TableGrows) at r new
 initialised_entry view at new b s is (Ok x) h = entry_first at 0x40 (s ∙ ap (λ (n : ℕ). Some n) is) ∙ h
 initialised_entry view at new b s is (Err f) h =
     let same = entry_first at 0x40 (s ∙ ap (λ (n : ℕ). Some n) is) in

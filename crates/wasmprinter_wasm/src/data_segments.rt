@@ -1,10 +1,10 @@
 //! The data section and the data count section (section 5.5, "Data Section" and "Data Count Section").
-ghost use Rattle.std.specs.Prelude.{◌≡◌, ◌<◌, ◌≤◌, Some};
+ghost use Rattle.std.specs.Prelude.{◌≡◌, ◌<◌, Some};
 ghost use Rattle.wasmprinter_spec.specs.Grammar.{value_with_place};
 ghost use Rattle.wasmprinter_spec.specs.Binary.DataSegments.{data_mode, byte_vec, segment, data_count_section};
 ghost use Rattle.wasmprinter_spec.specs.Sections.{DataSection};
-ghost use Rattle.wasmprinter_bytes.specs.Reads.{Decodes, end_of};
-ghost use Rattle.wasmprinter_bytes.specs.Lists.{Takes};
+ghost use Rattle.wasmprinter_bytes.specs.Reads.{Decodes};
+ghost use Rattle.wasmprinter_bytes.specs.Lists.{Takes, reader};
 ghost use Rattle.wasmprinter_wasm.specs.Growing.{DataModeGrows, DataGrows};
 ghost use Rattle.wasmprinter_wasm.specs.Contents.{TakesHeld, ReadsAll};
 ghost use Rattle.wasmprinter_wasm.specs.Segments.{data_mode_view};
@@ -63,9 +63,7 @@ impl<'a> DataMode<'a> {
     /// Reads the memory and the offset, as the flags require.
     fn read(alloc: Global, flags: u32, cursor: &mut Cursor<'a>) -> Result<Self, Error>
         requires { flags < 3 }
-        ensures reads { Takes data_mode_view (data_mode flags).parse (DataModeGrows flags) cursor.old result cursor.new }
-        ensures end { end_of cursor.new ≡ end_of cursor.old }
-        ensures forward { cursor.old.place ≤ cursor.new.place }
+        ensures { Takes data_mode_view (reader (data_mode flags).parse (DataModeGrows flags)) cursor.old result cursor.new }
     {
         match flags {
             ACTIVE => {

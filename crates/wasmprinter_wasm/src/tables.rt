@@ -1,10 +1,9 @@
 //! The table section (section 5.5, "Table Section").
-ghost use Rattle.std.specs.Prelude.{◌≡◌, ◌≤◌, ◌↔◌, IsTrue};
+ghost use Rattle.std.specs.Prelude.{◌≡◌, ◌↔◌, IsTrue};
 ghost use Rattle.wasmprinter_spec.specs.Grammar.{value_with_place};
 ghost use Rattle.wasmprinter_spec.specs.Binary.Tables.{table_by, table as table_grammar};
 ghost use Rattle.wasmprinter_spec.specs.Sections.{TableSection};
-ghost use Rattle.wasmprinter_bytes.specs.Reads.{end_of};
-ghost use Rattle.wasmprinter_bytes.specs.Lists.{Takes};
+ghost use Rattle.wasmprinter_bytes.specs.Lists.{Takes, reader};
 ghost use Rattle.wasmprinter_wasm.specs.Growing.{TableGrows};
 ghost use Rattle.wasmprinter_wasm.specs.Contents.{TakesHeld};
 ghost use Rattle.wasmprinter_wasm.specs.Tables.{FindsEmpty};
@@ -69,9 +68,7 @@ impl<'a> GrownIn<'a> for Table<'a> {
 impl<'a> Table<'a> {
     /// Reads the two bytes before a table with an initialiser, a table type, and the initialiser.
     fn read_initialised(alloc: Global, cursor: &mut Cursor<'a>) -> Result<Self, Error>
-        ensures reads { Takes (λ t. t) (value_with_place (table_by 0x40)).parse TableGrows cursor.old result cursor.new }
-        ensures end { end_of cursor.new ≡ end_of cursor.old }
-        ensures forward { cursor.old.place ≤ cursor.new.place }
+        ensures { Takes (λ t. t) (reader (value_with_place (table_by 0x40)).parse TableGrows) cursor.old result cursor.new }
     {
         let place = cursor.place();
         read_only(cursor, WITH_INIT)?;

@@ -1,4 +1,4 @@
-use Rattle.std.proofs.Common.{◌<◌, arith, inr}
+use Rattle.std.proofs.Common.{rules, ◌<◌, arith, inr}
 use Rattle.std.proofs.lemmas.Result.{err_from_is_err_and}
 use Rattle.wasmprinter_bytes.proofs.Fronts.{front_more, first_stands}
 use Rattle.wasmprinter_bytes.proofs.lists.read_list.Goals as goal
@@ -11,12 +11,16 @@ loop-preserved g c = record {
   first = inr (first_stands g.T.DecodeIn.parse c.u32.new.self c.loop.cursor (c.in_ok-read.field-0, c.read.new.cursor) c.loop.invariant.first c.in_ok-read.ensures.reads);
 }
 
-pub returns-in_err-push-clause-reads : goal.returns-in_err-push-clause-reads
-returns-in_err-push-clause-reads g c =
-    let p = err_from_is_err_and c.from_residual-in_err-push.result c.from_residual-in_err-push.ensures.1 in
-    let some : 0 < c.in_ok-count.count = omega arith in
-    rw (p.1, p.2)
-    (record {
-      counts = record { count = c.in_ok-count.count; after = c.u32.new.self; counted = c.in_ok-count.ensures.reads; some = some };
-      first = first_stands g.T.DecodeIn.parse c.u32.new.self c.loop.cursor (c.in_ok-read.field-0, c.read.new.cursor) c.loop.invariant.first c.in_ok-read.ensures.reads;
-    })
+pub returns-in_err-push : goal.returns-in_err-push
+returns-in_err-push g c = record {
+  reads =
+      let p = err_from_is_err_and c.from_residual-in_err-push.result c.from_residual-in_err-push.ensures.1 in
+      let some : 0 < c.in_ok-count.count = omega arith in
+      rw (p.1, p.2)
+      (record {
+        counts = record { count = c.in_ok-count.count; after = c.u32.new.self; counted = c.in_ok-count.ensures.reads; some = some };
+        first = first_stands g.T.DecodeIn.parse c.u32.new.self c.loop.cursor (c.in_ok-read.field-0, c.read.new.cursor) c.loop.invariant.first c.in_ok-read.ensures.reads;
+      });
+  end = search rules;
+  forward = search rules;
+}
