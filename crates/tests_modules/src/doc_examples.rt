@@ -34,9 +34,9 @@ fn of_print(rt: HostRuntime) -> Result<(), Fail> {
 #[test]
 fn of_print_to_string(rt: HostRuntime) -> Result<(), Fail> {
     let mut config = Config::new();
-    config.print_offsets(true).fold_instructions(true);
+    config.name_unnamed(true).fold_instructions(true);
     let text = config.print_to_string(rt.alloc(), IDENTITY)?;
-    assert!(rt; text.lines().nth(4) == Some("(;@20    ;)    (local.get 0)"));
+    assert!(rt; text.lines().nth(4) == Some("    (local.get $#local0)"));
     Ok(())
 }
 

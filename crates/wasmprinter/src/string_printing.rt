@@ -28,9 +28,9 @@ impl Config {
     ///
     /// ```
     /// let mut config = Config::new();
-    /// config.print_offsets(true).fold_instructions(true);
+    /// config.name_unnamed(true).fold_instructions(true);
     /// let text = config.print_to_string(rt.alloc(), IDENTITY)?;
-    /// assert!(rt; text.lines().nth(4) == Some("(;@20    ;)    (local.get 0)"));
+    /// assert!(rt; text.lines().nth(4) == Some("    (local.get $#local0)"));
     /// ```
     ///
     /// # Errors
