@@ -8,7 +8,7 @@ use Rattle.wasmprinter_spec.specs.Options.{Options}
 use Rattle.wasmprinter_bytes.specs.declared.library_error.Error.{Error}
 use Rattle.wasmprinter_bytes.specs.declared.library_error.Error.TheVariants.{Malformed, Component, TooManyLocals, TooManyFunctions, EmptyTableInit, FoldLegacy, FoldHint, DylinkSubsection, Unreadable, Printer, Memory}
 use Rattle.wasmprinter_samples.specs.Counting.{one_fault_more, counting}
-use Rattle.wasmprinter.specs.Change.{change}
+use Rattle.wasmprinter_print.specs.Change.{change}
 use Rattle.wasmprinter.specs.Printed.{Printed}
 use Rattle.wasmprinter.specs.Outcome.{Leaves}
 use Rattle.tests_api.specs.Faults.{faults_after}

@@ -11,7 +11,7 @@ use Rattle.wasmprinter_spec.specs.Layout.{layout, refusal}
 use Rattle.wasmprinter_spec.proofs.Texts.{alike_colored}
 use Rattle.wasmprinter_laws.proofs.Main.{prints_plain_text}
 use Rattle.wasmprinter_laws.proofs.Colored.Texts.{colored_text_keeps}
-use Rattle.wasmprinter.specs.Change.{change}
+use Rattle.wasmprinter_print.specs.Change.{change}
 use Rattle.wasmprinter.specs.AnsiText.{ansi_text_meaning}
 use Rattle.wasmprinter.specs.Printed.{Printed, no_claims}
 use Rattle.wasmprinter.specs.Colored.{HasColoredTextBy}

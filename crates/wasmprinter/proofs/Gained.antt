@@ -14,10 +14,10 @@ use Rattle.wasmprinter_laws.proofs.Colored.Texts.{colored_text_keeps}
 use Rattle.wasmprinter_writers.specs.Writing.{Writing, TakesWhole}
 use Rattle.wasmprinter_writers.specs.ColorCalls.{Coloring, WritesSequences, KeepsColor, WritesInColor, colored_meaning}
 use Rattle.wasmprinter_writers.proofs.Runs.{colored_run, uncolored_run}
-use Rattle.wasmprinter.specs.Change.{change}
 use Rattle.wasmprinter.specs.Printed.{Printed, no_claims}
 use Rattle.wasmprinter.specs.Gained.{GainAlike, GainsText}
 use Rattle.wasmprinter.proofs.Claims.{IsSame}
+use Rattle.wasmprinter_print.specs.Change.{change}
 use Rattle.wasmprinter_print.specs.TextOnly.{Writes, Grows, text_only}
 use Rattle.wasmprinter_print.proofs.TextRuns.{takes_none, text_is_gained}
 use Rattle.wasmprinter.proofs.Named.{same_module}

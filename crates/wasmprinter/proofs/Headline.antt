@@ -11,13 +11,13 @@ use Rattle.wasmprinter_spec.specs.Folding.Refusals.{IsFoldable}
 use Rattle.wasmprinter_spec.specs.Layout.{layout, refusal}
 use Rattle.wasmprinter_spec.specs.Text.Hints.{text_hints}
 use Rattle.wasmprinter_spec.specs.Read.{read}
+use Rattle.wasmprinter_print.specs.Change.{Change}
 use Rattle.wasmprinter_print.specs.Made.{Whole}
 use Rattle.wasmprinter_spec.proofs.Texts.{alike_texts}
 use Rattle.wasmprinter_laws.proofs.Main.{reads_back, prints_plain_text}
 use Rattle.wasmprinter_laws.proofs.Hints.Kept.{hints_stay}
 use Rattle.wasmprinter_laws.proofs.Colored.Texts.{color_adds_sequences, texts_contain_colors}
 use Rattle.wasmprinter.specs.Decoded.{Decoded}
-use Rattle.wasmprinter.specs.Change.{Change}
 use Rattle.wasmprinter.specs.Printed.{Printed, no_claims}
 use Rattle.wasmprinter.proofs.Claims.{alike_unclaimed, unclaimed_layout}
 use Rattle.wasmprinter.proofs.ColorRefusals.{refusal-color}

@@ -11,6 +11,7 @@ use Rattle.wasmprinter_spec.specs.Names.{Names}
 use Rattle.wasmprinter_spec.specs.Piece.{all_calls}
 use Rattle.wasmprinter_spec.specs.Layout.{module_pieces, layout, refusal}
 use Rattle.wasmprinter_spec.specs.Layout.Customs.{Laid}
+use Rattle.wasmprinter_print.specs.Change.{Change}
 use Rattle.wasmprinter_print.specs.Made.{Made, Broken, Interrupted, Ending, Through, AtCall, Stopped, Never, when_out_of_memory}
 use Rattle.wasmprinter_bytes.specs.declared.library_error.Error.{Error}
 use Rattle.wasmprinter_bytes.specs.declared.library_error.Error.TheVariants.{Malformed, Component, TooManyLocals, TooManyFunctions, EmptyTableInit, FoldLegacy, FoldHint, DylinkSubsection, Printer, Memory}
@@ -22,7 +23,6 @@ use Rattle.wasmprinter_spec.specs.Call.{Call}
 use Rattle.wasmprinter_spec.specs.Folding.Refusals.{IsFoldable}
 use Rattle.wasmprinter_fold.specs.Refused.{HasFoldReason}
 use Rattle.wasmprinter.specs.Decoded.{Decoded}
-use Rattle.wasmprinter.specs.Change.{Change}
 use Rattle.wasmprinter.specs.Printed.{Printed}
 use Rattle.wasmprinter.specs.Outcome.{HasListedCause, HasListedTextCause, IsSoundRefusal, IsSoundTextRefusal, IsPrintRefusal, IsTextRefusal, IsLegacyAt, IsMisplacedAt, AnyIsRefused, MadeUpTo, Leaves, without_printer}
 use Rattle.wasmprinter_spec.specs.Names.Content.{name_of}
@@ -145,14 +145,14 @@ module _ {P : Type 0} (printer : Change P) (colors : Bool) (o : Options) {bytes 
 
   -- The result of printing, with the calls that were made.
   abbrev AsLaid : Result (Unit {0}) Error → Type 0
-  AsLaid r = PrintsLaid printer.meaning by printer.old printer.new r (own_laid by answers d.placed)
+  AsLaid r = PrintsLaid printer by r (own_laid by answers d.placed)
 
   -- A module that was written with the names of its sections was printed as its own layout says.
   pub own_ended : (r : Result (Unit {0}) Error) (s : LabelState) (items : List NamedItem) → s.item_names ≡ items → s.synthesizes ≡ o.synthesizes →
       ((t outer index : ℕ) → name_at items t outer index ≡ name_of (name_entries d.placed.customs) t outer index) →
-      PrintsLaid printer.meaning by printer.old printer.new r (module_laid by answers (names_of s) d.placed) → AsLaid r
+      PrintsLaid printer by r (module_laid by answers (names_of s) d.placed) → AsLaid r
   own_ended r s items same synthesizes given v =
-      subst (λ (l : Laid). PrintsLaid printer.meaning by printer.old printer.new r l) (own_layout by answers d.placed s items same synthesizes given) v
+      subst (λ (l : Laid). PrintsLaid printer by r l) (own_layout by answers d.placed s items same synthesizes given) v
 
   never : AreMade Never (all_calls by (module_pieces by answers d.placed)) → ⊥
   never v = v.made

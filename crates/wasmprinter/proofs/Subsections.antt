@@ -13,11 +13,11 @@ use Rattle.wasmprinter_spec.specs.Customs.{CustomTreatment, Silent, ProducersFie
 use Rattle.wasmprinter_spec.specs.Layout.Identifiers.{leading_id_and_name_pieces}
 use Rattle.wasmprinter_spec.specs.Layout.{early_scope, section_pieces, section_order, section_parts, module_parts, module_pieces_of, module_pieces_with, module_pieces, layout, refusal}
 use Rattle.wasmprinter_spec.specs.Layout.Customs.{Part, Shown, Laid, laid_parts, treatment_part, custom_part, same_after, parts_at}
+use Rattle.wasmprinter_print.specs.Change.{Change}
 use Rattle.wasmprinter_print.specs.MadeLaws.{atoms-append}
 use Rattle.wasmprinter_print.specs.Made.{Whole}
 use Rattle.wasmprinter_print.specs.EffectLaws.{all_calls-append}
 use Rattle.wasmprinter_sections.proofs.Joined.{laid_after, joined-append}
-use Rattle.wasmprinter.specs.Change.{Change}
 use Rattle.wasmprinter.specs.Outcome.{AnyIsUnknown, IsRefused, AnyIsRefused, MadeUpTo}
 
 abbrev Stop : List Part → ℕ → Type 0

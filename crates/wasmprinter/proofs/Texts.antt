@@ -16,10 +16,10 @@ use Rattle.wasmprinter_laws.proofs.Main.{reads_back, prints_plain_text}
 use Rattle.wasmprinter_spec.specs.Read.{read}
 use Rattle.wasmprinter_laws.proofs.Hints.Kept.{hints_stay}
 use Rattle.wasmprinter_spec.specs.Text.Hints.{text_hints}
+use Rattle.wasmprinter_print.specs.Change.{Change, change}
 use Rattle.wasmprinter_print.specs.TextOnly.{text_only}
 use Rattle.wasmprinter_print.proofs.TextRuns.{takes_none, text_is_gained}
 use Rattle.wasmprinter.specs.Decoded.{Decoded}
-use Rattle.wasmprinter.specs.Change.{Change, change}
 use Rattle.wasmprinter.specs.Plain.{appends}
 use Rattle.wasmprinter.specs.Outcome.{FirstIsUnknown, MadeUpTo, WhilePrinting}
 use Rattle.wasmprinter.specs.Printed.{Printed, IsTextOf, HasText, no_claims}

@@ -17,7 +17,7 @@ use Rattle.wasmprinter_writers.specs.Tracking.{tracked_meaning, Tracks}
 use Rattle.wasmprinter_writers.proofs.LineRuns.{claims_never, run_tracks, run_text, broken_text}
 use Rattle.wasmprinter_laws.proofs.Lines.Starts.{lines_join}
 use Rattle.wasmprinter_laws.proofs.Lines.FunctionLines.{function_lines}
-use Rattle.wasmprinter.specs.Change.{Change, change}
+use Rattle.wasmprinter_print.specs.Change.{Change, change}
 use Rattle.wasmprinter.specs.Printed.{Printed, no_claims}
 use Rattle.wasmprinter.specs.Outcome.{Leaves, LeavesBeginning, IsTextRefusal, without_printer}
 use Rattle.wasmprinter.specs.Lined.{HasLinesBy, LeavesStorage}

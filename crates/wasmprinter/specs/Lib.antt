@@ -1,6 +1,5 @@
 -- The definitions that the contracts of this crate cite.
 pub mod AnsiText
-pub mod Change
 pub mod Colored
 pub mod Decoded
 pub mod Found

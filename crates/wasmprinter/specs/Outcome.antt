@@ -10,6 +10,7 @@ use Rattle.wasmprinter_spec.specs.Meaning.{Run, Failed}
 use Rattle.wasmprinter_spec.specs.Options.{Options, Answers, with_color}
 use Rattle.wasmprinter_spec.specs.Layout.{layout, refusal}
 use Rattle.wasmprinter_spec.specs.Folding.Refusals.{IsFirstLegacy, IsFirstMisplaced, IsFoldable}
+use Rattle.wasmprinter_print.specs.Change.{Change}
 use Rattle.wasmprinter_print.specs.Made.{Whole, Broken, Interrupted}
 use Rattle.wasmprinter_bytes.specs.Reasons.{Reasons}
 use Rattle.wasmprinter_bytes.specs.declared.library_error.Error.{Error}
@@ -18,7 +19,6 @@ use Rattle.wasmprinter_wasm.specs.Modules.{bodies_of}
 use Rattle.wasmprinter_wasm.specs.Refusals.{FirstIsOver, FirstIsEmpty}
 use Rattle.wasmprinter_wasm.specs.Decoding.{HoldsSome, module_reasons}
 use Rattle.wasmprinter.specs.Decoded.{Decoded}
-use Rattle.wasmprinter.specs.Change.{Change}
 
 -- One of these custom sections is a `dylink.0` section whose first unknown subsection has this id. That subsection
 -- is complete and precedes any malformed one.

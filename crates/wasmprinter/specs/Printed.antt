@@ -15,7 +15,7 @@ use Rattle.wasmprinter_spec.specs.HintsOfModule.{OperatorHint, module_hints}
 use Rattle.wasmprinter_spec.specs.Text.Hints.{text_hints}
 use Rattle.wasmprinter_spec.specs.Read.{read}
 use Rattle.wasmprinter.specs.Decoded.{Decoded}
-use Rattle.wasmprinter.specs.Change.{Change}
+use Rattle.wasmprinter_print.specs.Change.{Change}
 
 -- No custom section is claimed.
 abbrev pub no_claims : Answers

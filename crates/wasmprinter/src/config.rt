@@ -3,7 +3,7 @@ ghost use Rattle.std.specs.Prelude.{◌≡◌, ◌↔◌, true, OnOk, IfErr, IsE
 ghost use Rattle.wasmprinter_spec.specs.Binary.{IsComponent};
 ghost use Rattle.wasmprinter_spec.specs.Folding.Refusals.{IsFoldable};
 ghost use Rattle.wasmprinter_fold.specs.Refused.{HasFoldReason};
-ghost use Rattle.wasmprinter.specs.Change.{change};
+ghost use Rattle.wasmprinter_print.specs.Change.{change};
 ghost use Rattle.wasmprinter.specs.Printed.{Printed};
 ghost use Rattle.wasmprinter.specs.Outcome.{IsPrintRefusal, Leaves};
 

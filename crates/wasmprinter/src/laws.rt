@@ -3,8 +3,8 @@
 
 ghost use Rattle.std.specs.Prelude.{ℕ, List};
 ghost use Rattle.wasmprinter_spec.specs.Options.{IsBlank};
+ghost use Rattle.wasmprinter_print.specs.Change.{change};
 ghost use Rattle.wasmprinter_print.specs.TextOnly.{Grows};
-ghost use Rattle.wasmprinter.specs.Change.{change};
 ghost use Rattle.wasmprinter.specs.Printed.{Printed};
 ghost use Rattle.wasmprinter.specs.Gained.{GainAlike, GainsText};
 

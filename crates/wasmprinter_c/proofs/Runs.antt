@@ -13,7 +13,7 @@ use Rattle.wasmprinter_laws.proofs.Lines.Starts.{lines_join}
 use Rattle.wasmprinter_laws.proofs.Lines.FunctionLines.{function_lines}
 use Rattle.wasmprinter_writers.specs.Cuts.{lines_at_starts}
 use Rattle.wasmprinter_writers.specs.declared.line_iterator.LineStart.{LineStart}
-use Rattle.wasmprinter.specs.Change.{Change, change}
+use Rattle.wasmprinter_print.specs.Change.{Change, change}
 use Rattle.wasmprinter.specs.Printed.{Printed, no_claims}
 use Rattle.wasmprinter.proofs.Texts.{IsPlainly, plainly_printed, module_text}
 use Rattle.wasmprinter_c.specs.Over.{over, over_from}

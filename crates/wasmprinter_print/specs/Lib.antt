@@ -1,4 +1,5 @@
 -- The definitions that the contracts of this crate cite.
+pub mod Change
 pub mod EffectLaws
 pub mod Effects
 pub mod Errors

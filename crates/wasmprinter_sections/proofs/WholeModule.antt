@@ -13,6 +13,7 @@ use Rattle.wasmprinter_spec.specs.Layout.{module_parts, module_pieces_of, module
 use Rattle.wasmprinter_spec.specs.Layout.Groups.{close, has_break, group_at}
 use Rattle.wasmprinter_spec.specs.Layout.Identifiers.{leading_id_and_name_pieces}
 use Rattle.wasmprinter_spec.specs.Layout.Customs.{Part, Shown, Laid, before_laid, laid_parts}
+use Rattle.wasmprinter_print.specs.Change.{Change, change}
 use Rattle.wasmprinter_print.specs.Made.{Made, when_out_of_memory}
 use Rattle.wasmprinter_print.specs.Effects.{state, EffectEnds, HasEffect, of_parts}
 use Rattle.wasmprinter_print.specs.declared.halt.Halt.{Halt}
@@ -49,13 +50,13 @@ module-whole o answers names m =
 
 -- ---- The result of printing a module
 
-module _ {P : Type 0} (m : Meaning P) (o : Options) (old new : P) (b c : Bool) (ps : List Part) where
-  pub ended_laid : (z : Option Halt) → EffectEnds m o.folds (state old None b) new z c (of_parts o ps) →
-      PrintsLaid m o old new (result_of z) (laid_parts ps)
+module _ {P : Type 0} (printer : Change P) (o : Options) (b c : Bool) (ps : List Part) where
+  pub ended_laid : (z : Option Halt) → EffectEnds printer.meaning o.folds (state printer.old None b) printer.new z c (of_parts o ps) →
+      PrintsLaid printer o (result_of z) (laid_parts ps)
   ended_laid None v = record { made = record { made = v.0 }; refused = v.2 }
   ended_laid (Some (halt.Printer e)) v = record { made = record { made = v }; refused = tt }
   ended_laid (Some halt.Memory) v = record {
-    made = subst (λ (f : Bool). Made m old new (when_out_of_memory f) (all_calls o (laid_parts ps).pieces)) (sym v.1) (record { made = v.0 });
+    made = subst (λ (f : Bool). Made printer.meaning printer.old printer.new (when_out_of_memory f) (all_calls o (laid_parts ps).pieces)) (sym v.1) (record { made = v.0 });
     refused = tt;
   }
   ended_laid (Some (halt.Refused id)) v = record { made = record { made = v.0 }; refused = v.1 }
@@ -64,17 +65,17 @@ module _ {P : Type 0} (m : Meaning P) (o : Options) (old new : P) (b c : Bool) (
 pub printed : {P : Type 0} (n : Meaning P) (o : Options) {p q old new : P} {y x : Option Halt} (z : Option Halt) {b c : Bool} (answers : Answers)
     (names : Names) (m : PlacedModule) → p ≡ old → y ≡ None → new ≡ q → x ≡ z →
     HasEffect n o (state p y b) (state q x c) (of_parts o (whole_parts o answers names m)) →
-    PrintsLaid n o old new (result_of z) (module_laid o answers names m)
+    PrintsLaid (change n old new) o (result_of z) (module_laid o answers names m)
 printed n o {old = old} {new} z {b} {c} answers names m h f g i v =
-    subst (λ (l : Laid). PrintsLaid n o old new (result_of z) l) (module-whole o answers names m)
-    (ended_laid n o old new b c (whole_parts o answers names m) z (effect_between n o old new z h f g i v))
+    subst (λ (l : Laid). PrintsLaid (change n old new) o (result_of z) l) (module-whole o answers names m)
+    (ended_laid (change n old new) o b c (whole_parts o answers names m) z (effect_between n o old new z h f g i v))
 
 -- If an allocation failed before the first call, then the empty prefix of the layout was made.
 pub stops_first : {P T : Type 0} (m : Meaning P) (o : Options) (a : P) (r : Result T Error) {e : Error} (l : Laid) → o.folds ≡ true → e ≡ Memory →
-    IsErrAnd r (λ y. y ≡ e) → PrintsLaid m o a a r l
+    IsErrAnd r (λ y. y ≡ e) → PrintsLaid (change m a a) o r l
 stops_first m o a (Ok x) l folds s f = absurd f
 stops_first {P} {T} m o a (Err y) l folds s f =
-    subst (λ (z : Error). PrintsLaid {T = T} m o a a (Err z) l) (sym (f ∙ s)) (record {
+    subst (λ (z : Error). PrintsLaid {T = T} (change m a a) o (Err z) l) (sym (f ∙ s)) (record {
       made = subst (λ (b : Bool). Made m a a (when_out_of_memory b) (all_calls o l.pieces)) (sym folds)
           (record { made = record { calls = []; rest = atoms (all_calls o l.pieces); run = refl; alike = refl } });
       refused = tt;

@@ -2,10 +2,10 @@
 use Rattle.std.specs.Prelude.{◌≡◌, ℕ, Bool, Option, Some, None, Result, Ok, Err}
 use Rattle.wasmprinter_bytes.specs.declared.library_error.Error.{Error}
 use Rattle.wasmprinter_bytes.specs.declared.library_error.Error.TheVariants.{DylinkSubsection, Printer, Memory}
-use Rattle.wasmprinter_spec.specs.Meaning.{Meaning}
 use Rattle.wasmprinter_spec.specs.Options.{Options}
 use Rattle.wasmprinter_spec.specs.Piece.{all_calls}
 use Rattle.wasmprinter_spec.specs.Layout.Customs.{Laid}
+use Rattle.wasmprinter_print.specs.Change.{Change}
 use Rattle.wasmprinter_print.specs.Made.{Made, Ending, Through, AtCall, Never, when_out_of_memory}
 
 -- How the calls end that were made before this error. A refusal comes after all calls before it, and the printer's
@@ -37,6 +37,6 @@ AgreesWithRefusal (Err e) refused = ErrorAgreesWithRefusal e refused
 -- The calls that were made are those of the layout, up to how text is split into calls. They are a prefix if a call
 -- failed, whose error is then returned, or if an allocation failed while operators were folded. A refusal (an unknown
 -- subsection of `dylink.0`), if there is one, is returned after all calls. Nothing else is returned as an error.
-pub record PrintsLaid {P T : Type 0} (m : Meaning P) (o : Options) (old new : P) (r : Result T Error) (l : Laid) : Type 0 where
-  pub made : Made m old new (ending_by o.folds r) (all_calls o l.pieces)
+pub record PrintsLaid {P T : Type 0} (printer : Change P) (o : Options) (r : Result T Error) (l : Laid) : Type 0 where
+  pub made : Made printer.meaning printer.old printer.new (ending_by o.folds r) (all_calls o l.pieces)
   pub refused : AgreesWithRefusal r l.refused

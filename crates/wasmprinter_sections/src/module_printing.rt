@@ -2,6 +2,7 @@
 ghost use Rattle.std.specs.Prelude.{◌≡◌, true, IfOk, IfErr};
 ghost use Rattle.wasmprinter_bytes.specs.declared.library_error.Error.TheVariants.{Memory};
 ghost use Rattle.wasmprinter_spec.specs.Options.{Options, Answers, with_color};
+ghost use Rattle.wasmprinter_print.specs.Change.{change};
 ghost use Rattle.wasmprinter_flat.specs.OpenLabels.LabelState.{names_of};
 ghost use Rattle.wasmprinter_sections.specs.Endings.{PrintsLaid};
 ghost use Rattle.wasmprinter_sections.specs.Sections.{module_laid, Folds};
@@ -42,7 +43,7 @@ fn print_by<'s, 'a, P: Print, K: LayoutOptions>(
 ) -> Result<(), Error>
     requires options { with_color options.now K.options.color ≡ K.options }
     requires folder { Folds K.options folder module.now }
-    ensures { (answers : Answers) × PrintsLaid P.meaning K.options p.old p.new result
+    ensures { (answers : Answers) × PrintsLaid (change P.meaning p.old p.new) K.options result
         (module_laid K.options answers (names_of labels.entry) module.now) }
 {
     let mut out: Printer<'_, '_, P, K> = Printer::new(p, options);
@@ -77,7 +78,7 @@ pub fn print_module<'s, 'a, P: Print>(
     labels: OpenLabels<'s, 'a>,
 ) -> Result<(), Error>
     ensures { let chosen : Options = with_color options.now (P.colors p.old) in
-        (answers : Answers) × PrintsLaid P.meaning chosen p.old p.new result
+        (answers : Answers) × PrintsLaid (change P.meaning p.old p.new) chosen result
         (module_laid chosen answers (names_of labels.entry) module.now) }
 {
     let color = p.supports_async_color();

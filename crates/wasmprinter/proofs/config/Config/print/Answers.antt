@@ -1,4 +1,4 @@
-use Rattle.wasmprinter.specs.Change.{change}
+use Rattle.wasmprinter_print.specs.Change.{change}
 use Rattle.wasmprinter.specs.Outcome.{IsPrintRefusal, Leaves}
 use Rattle.std.proofs.Common.{refl, ap, ◌∙◌}
 use Rattle.wasmprinter_spec.specs.Names.Section.{label_subsection}
