@@ -6,6 +6,7 @@ use std::alloc::{AllocError, Global};
 use std::test::Fail;
 use wasmprinter::wasm::decode;
 use wasmprinter::{Config, Error};
+use wasmprinter_decoder::{CustomEntry, Fields, SectionKind};
 use wasmprinter_expecting::Expected::Malformed;
 use wasmprinter_expecting::Options::Default;
 use wasmprinter_expecting::{
@@ -15,7 +16,6 @@ use wasmprinter_samples::parts::Part::{Bytes, Custom, Section};
 use wasmprinter_samples::parts::{Parts, add_parts, build};
 use wasmprinter_samples::sections::CUSTOM;
 use wasmprinter_samples::{PREAMBLE, Recorder};
-use wasmprinter_wasm::{CustomEntry, Fields, SectionKind};
 
 // ---- places
 

@@ -7,11 +7,11 @@ use wasmprinter::Error;
 use wasmprinter::wasm::{
     BlockType, Body, Catch, Immediates, Module, Opcode, Operator, OperatorsReader, ValType, decode,
 };
+use wasmprinter_decoder::{BodyParts, Export, ExternKind, Fields, LocalEntry, TypeGroup};
 use wasmprinter_ops::opcode::Listed;
 use wasmprinter_samples::parts::Part::Bytes;
 use wasmprinter_samples::parts::{Parts, build};
 use wasmprinter_samples::{CONTROL, EVERYTHING, PREAMBLE};
-use wasmprinter_wasm::{BodyParts, Export, ExternKind, Fields, LocalEntry, TypeGroup};
 
 /// The expected immediates of an operator, with lists as slices.
 #[derive(Clone, Copy)]

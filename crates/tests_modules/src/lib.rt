@@ -1,6 +1,6 @@
 //! Tests of whole modules: refusals, limits, names, custom sections, branch hints, decoded modules, options, lines and
 //! places, and the examples of the documents. Parts of a decoded module that the library does not export are read
-//! through the traits of `wasmprinter_wasm` and `wasmprinter_ops`. Expected values are typed by hand.
+//! through the traits of `wasmprinter_decoder` and `wasmprinter_ops`. Expected values are typed by hand.
 #![tactic(auto)]
 
 #[cfg(test)]

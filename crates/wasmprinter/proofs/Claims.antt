@@ -15,7 +15,7 @@ use Rattle.wasmprinter_spec.specs.Layout.Identifiers.{leading_id_and_name_pieces
 use Rattle.wasmprinter_spec.specs.Layout.Customs.{Part, Shown, Stops, Laid, before_laid, laid_parts, custom_part, same_after, parts_at}
 use Rattle.wasmprinter_spec.proofs.Each.{all_both, all_parts}
 use Rattle.wasmprinter_print.specs.EffectLaws.{all_calls-append}
-use Rattle.wasmprinter_sections.proofs.Joined.{laid_after, joined-append}
+use Rattle.wasmprinter_module_text.proofs.Joined.{laid_after, joined-append}
 use Rattle.wasmprinter.specs.Printed.{no_claims}
 
 -- ---- Calls that are alike

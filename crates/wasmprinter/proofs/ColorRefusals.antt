@@ -9,7 +9,7 @@ use Rattle.wasmprinter_spec.specs.Options.{Options, Answers, with_color}
 use Rattle.wasmprinter_spec.specs.Piece.{Piece}
 use Rattle.wasmprinter_spec.specs.Layout.{early_scope, section_order, section_parts, module_parts, refusal}
 use Rattle.wasmprinter_spec.specs.Layout.Customs.{Part, Laid, laid_parts, parts_at}
-use Rattle.wasmprinter_sections.proofs.Joined.{laid_after, joined-append}
+use Rattle.wasmprinter_module_text.proofs.Joined.{laid_after, joined-append}
 
 record HaveSameEnd (xs ys : List Part) : Type 0 where
   end : (laid_parts xs).refused ≡ (laid_parts ys).refused

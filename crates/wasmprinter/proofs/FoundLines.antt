@@ -7,7 +7,7 @@ use Rattle.wasmprinter_spec.specs.Operator.{Operator}
 use Rattle.wasmprinter_spec.specs.Placed.{Body, PlacedFunction, PlacedModule}
 use Rattle.wasmprinter_spec.specs.Lines.{TextLine, line_from, operator_at, place_of}
 use Rattle.wasmprinter_laws.proofs.Lines.Finding.{finds_place, only_found}
-use Rattle.wasmprinter_wasm.specs.Modules.{body_at}
+use Rattle.wasmprinter_decoder.specs.Modules.{body_at}
 use Rattle.wasmprinter.specs.Found.{place_at, IsAtItsLine, FindsItsLine}
 use Rattle.wasmprinter.proofs.Named.{same_module}
 

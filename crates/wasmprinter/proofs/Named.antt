@@ -17,8 +17,8 @@ use Rattle.wasmprinter_spec.specs.Names.Section.{Entry}
 use Rattle.wasmprinter_spec.specs.Names.Content.{name_of}
 use Rattle.wasmprinter_spec.specs.ModuleNames.{name_entries, module_names}
 use Rattle.wasmprinter_spec.proofs.Ordered.{picks}
-use Rattle.wasmprinter_wasm.specs.Refusals.{HasCustom, KeepsSome}
-use Rattle.wasmprinter_wasm.specs.Decoding.{HoldsSome, IsRefusal}
+use Rattle.wasmprinter_decoder.specs.Refusals.{HasCustom, KeepsSome}
+use Rattle.wasmprinter_decoder.specs.Decoding.{HoldsSome, IsRefusal}
 use Rattle.wasmprinter_bytes.specs.declared.library_error.Error.TheVariants.{Memory}
 use Rattle.wasmprinter.specs.Decoded.{Decoded}
 

@@ -16,9 +16,9 @@ use Rattle.wasmprinter_print.specs.Made.{Made, Broken, Interrupted, Ending, Thro
 use Rattle.wasmprinter_bytes.specs.declared.library_error.Error.{Error}
 use Rattle.wasmprinter_bytes.specs.declared.library_error.Error.TheVariants.{Malformed, Component, TooManyLocals, TooManyFunctions, EmptyTableInit, FoldLegacy, FoldHint, DylinkSubsection, Printer, Memory}
 use Rattle.std.specs.declared.io.Error.{Error as IoError}
-use Rattle.wasmprinter_wasm.specs.Decoding.{IsRefusal}
-use Rattle.wasmprinter_sections.specs.Endings.{PrintsLaid}
-use Rattle.wasmprinter_sections.specs.Sections.{module_laid}
+use Rattle.wasmprinter_decoder.specs.Decoding.{IsRefusal}
+use Rattle.wasmprinter_module_text.specs.Endings.{PrintsLaid}
+use Rattle.wasmprinter_module_text.specs.Sections.{module_laid}
 use Rattle.wasmprinter_spec.specs.Call.{Call}
 use Rattle.wasmprinter_spec.specs.Folding.Refusals.{IsFoldable}
 use Rattle.wasmprinter_fold.specs.Refused.{HasFoldReason}

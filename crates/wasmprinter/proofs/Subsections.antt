@@ -17,7 +17,7 @@ use Rattle.wasmprinter_print.specs.Change.{Change}
 use Rattle.wasmprinter_print.specs.MadeLaws.{atoms-append}
 use Rattle.wasmprinter_print.specs.Made.{Whole}
 use Rattle.wasmprinter_print.specs.EffectLaws.{all_calls-append}
-use Rattle.wasmprinter_sections.proofs.Joined.{laid_after, joined-append}
+use Rattle.wasmprinter_module_text.proofs.Joined.{laid_after, joined-append}
 use Rattle.wasmprinter.specs.Outcome.{AnyIsUnknown, IsRefused, AnyIsRefused, MadeUpTo}
 
 abbrev Stop : List Part → ℕ → Type 0

@@ -15,9 +15,9 @@ use Rattle.wasmprinter_print.specs.Made.{Whole, Broken, Interrupted}
 use Rattle.wasmprinter_bytes.specs.Reasons.{Reasons}
 use Rattle.wasmprinter_bytes.specs.declared.library_error.Error.{Error}
 use Rattle.wasmprinter_bytes.specs.declared.library_error.Error.TheVariants.{Malformed, Component, TooManyLocals, TooManyFunctions, EmptyTableInit, FoldLegacy, FoldHint, DylinkSubsection, Unreadable, Printer, Memory}
-use Rattle.wasmprinter_wasm.specs.Modules.{bodies_of}
-use Rattle.wasmprinter_wasm.specs.Refusals.{FirstIsOver, FirstIsEmpty}
-use Rattle.wasmprinter_wasm.specs.Decoding.{HoldsSome, module_reasons}
+use Rattle.wasmprinter_decoder.specs.Modules.{bodies_of}
+use Rattle.wasmprinter_decoder.specs.Refusals.{FirstIsOver, FirstIsEmpty}
+use Rattle.wasmprinter_decoder.specs.Decoding.{HoldsSome, module_reasons}
 use Rattle.wasmprinter.specs.Decoded.{Decoded}
 
 -- One of these custom sections is a `dylink.0` section whose first unknown subsection has this id. That subsection

@@ -11,11 +11,11 @@ use std::alloc::Global;
 use std::marker::Model;
 use wasmprinter_bytes::Error;
 use wasmprinter_custom::Identifiers;
+use wasmprinter_decoder::{Module, decode};
 use wasmprinter_flat::open_labels::OpenLabels;
 use wasmprinter_fold::foldable::check_folding;
+use wasmprinter_module_text::print_module;
 use wasmprinter_print::{Print, PrintOptions};
-use wasmprinter_sections::print_module;
-use wasmprinter_wasm::{Module, decode};
 
 /// The options of printing: which parts of a module are printed, and in which form.
 #[derive(Debug, Drop)]

@@ -4,8 +4,8 @@ ghost use Rattle.wasmprinter_spec.specs.Lines as spec;
 ghost use Rattle.wasmprinter_spec.specs.Lines.{line_from};
 ghost use Rattle.wasmprinter.specs.Found.{place_at, text_lines, IsAtItsLine, FindsItsLine};
 
+use wasmprinter_decoder::Module;
 use wasmprinter_ops::expression::OperatorsReader;
-use wasmprinter_wasm::Module;
 
 /// Returns the number of an operator's line, an index into `lines`, and the operator's place, a byte offset from
 /// the start of the module.

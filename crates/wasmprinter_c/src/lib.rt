@@ -24,7 +24,7 @@ use messages::describe;
 use status::{BAD_INDENT, PRINTED, UNKNOWN_OPTION, detail_of, status_of};
 use std::alloc::{AllocError, Global};
 use wasmprinter::{Config, Error};
-use wasmprinter_wasm::is_component;
+use wasmprinter_decoder::is_component;
 
 /// The version of the library: the major number times 1,000,000, plus the minor number times 1,000, plus the patch
 /// number.

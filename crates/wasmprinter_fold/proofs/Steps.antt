@@ -17,7 +17,7 @@ use Rattle.wasmprinter_spec.specs.Placed.{Custom, CustomEntry, Global, PlacedFun
 use Rattle.wasmprinter_spec.specs.Options.{Options}
 use Rattle.wasmprinter_spec.specs.Folding.Code.{is_try}
 use Rattle.wasmprinter_spec.specs.Folding.Refusals.{Operators, init_list, element_lists, data_lists, lists_before_code, body_lists, legacy_places_in, legacy_places, place_if_misplaced, misplaced_hints_in, misplaced_hints_from}
-use Rattle.wasmprinter_wasm.specs.Segments.{constants_of}
+use Rattle.wasmprinter_decoder.specs.Segments.{constants_of}
 use Rattle.wasmprinter_ops.specs.Operators.{pairs}
 use Rattle.wasmprinter_ops.proofs.Pairs.{first-pair, no-pair}
 use Rattle.wasmprinter_fold.specs.Refused.{error_of_first}

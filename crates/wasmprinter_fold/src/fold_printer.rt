@@ -11,12 +11,12 @@ use crate::node_text::write_nodes::write_nodes;
 use std::alloc::{AllocError, Global};
 use std::marker::Model;
 use wasmprinter_custom::FunctionHints;
+use wasmprinter_decoder::Module;
 use wasmprinter_flat::open_labels::OpenLabels;
 use wasmprinter_flat::operators::Setting;
 use wasmprinter_ops::expression::Expression;
 use wasmprinter_print::FoldingOutput;
 use wasmprinter_text::signature::Signatures;
-use wasmprinter_wasm::Module;
 
 /// Folds and prints the operators of a module, list by list. Nodes and texts reuse the memory of earlier lists.
 #[derive(Drop)]

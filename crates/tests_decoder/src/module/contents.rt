@@ -3,12 +3,12 @@
 use crate::module::modules::{Compared, DATA, Expected, FUNCTIONS, TYPES, are_all, are_as};
 use std::alloc;
 use std::test::Fail;
-use wasmprinter_ops::expression::{Expression, OperatorsReader};
-use wasmprinter_ops::{HeapType, RefType, ValType};
-use wasmprinter_wasm::{
+use wasmprinter_decoder::{
     Data, DataMode, Element, ElementItems, ElementMode, Export, ExternKind, ExternType, Fields,
     Global, GlobalType, Import, Limits, Memory, MemoryType, Module, Table, TableType, Tag,
 };
+use wasmprinter_ops::expression::{Expression, OperatorsReader};
+use wasmprinter_ops::{HeapType, RefType, ValType};
 
 /// The place of the first item of the first section.
 const FIRST: u64 = 0x0b;

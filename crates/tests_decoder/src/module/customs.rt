@@ -7,8 +7,8 @@ use crate::module::modules::{
 use std::alloc::{AllocError, Global};
 use std::test::Fail;
 use wasmprinter_custom::{Names, Space};
-use wasmprinter_wasm::customs::Custom;
-use wasmprinter_wasm::{CustomEntry, Fields, Module};
+use wasmprinter_decoder::customs::Custom;
+use wasmprinter_decoder::{CustomEntry, Fields, Module};
 
 /// A name section with the names `m` for the module and `a` for function 0.
 const FIRST_NAMES: &[u8] = b"\x00\x0f\x04name\x00\x02\x01m\x01\x04\x01\x00\x01a";

@@ -4,9 +4,9 @@ use crate::operators::nested_blocks;
 use std::alloc::{AllocError, Global};
 use std::test::Fail;
 use wasmprinter_bytes::Error;
+use wasmprinter_decoder::{Fields, Module, decode, is_component};
 use wasmprinter_ops::expression::OperatorsReader;
 use wasmprinter_samples::{IDENTITY, PREAMBLE};
-use wasmprinter_wasm::{Fields, Module, decode, is_component};
 
 /// A type section with one function type, without parameters and results.
 pub(crate) const TYPES: &[u8] = &[0x01, 0x04, 0x01, 0x60, 0x00, 0x00];

@@ -6,7 +6,7 @@ use crate::module::modules::{
 };
 use std::alloc::Global;
 use std::test::Fail;
-use wasmprinter_wasm::{CustomEntry, Fields, Module, SectionKind};
+use wasmprinter_decoder::{CustomEntry, Fields, Module, SectionKind};
 
 /// A custom section named `n`.
 const NOTE: &[u8] = b"\x00\x02\x01n";

@@ -4,9 +4,9 @@
 use crate::module::modules::{Compared, Expected, are_all, are_as};
 use std::alloc::{AllocError, Global};
 use std::test::Fail;
+use wasmprinter_decoder::{Fields, Limits, MemoryType, Module, TypeGroup};
 use wasmprinter_ops::ValType;
 use wasmprinter_ops::composite_types::FuncType;
-use wasmprinter_wasm::{Fields, Limits, MemoryType, Module, TypeGroup};
 
 /// A group of types: its place, whether it is written as a group, and the number of its types.
 type Group = (u64, bool, u32);

@@ -10,11 +10,11 @@ use std::marker::Brand;
 use std::test::Fail;
 use wasmprinter_bytes::Error;
 use wasmprinter_bytes::cursor::Cursor;
+use wasmprinter_decoder::custom_placement::{CustomEntry, SectionKind};
+use wasmprinter_decoder::customs::Custom;
+use wasmprinter_module_text::{write_custom, write_customs};
 use wasmprinter_print::{LayoutOptions, Print, PrintOptions, Printer};
 use wasmprinter_samples::expect_same;
-use wasmprinter_sections::{write_custom, write_customs};
-use wasmprinter_wasm::custom_placement::{CustomEntry, SectionKind};
-use wasmprinter_wasm::customs::Custom;
 
 /// The place of each section.
 const PLACE: u64 = 0x10;

@@ -7,8 +7,8 @@ ghost use Rattle.wasmprinter_spec.specs.Folding.Arities.{types_of, functions_of,
 
 use std::alloc::{AllocError, Global};
 use std::marker::Model;
+use wasmprinter_decoder::{ExternType, Fields, Module};
 use wasmprinter_ops::composite_types::FuncType;
-use wasmprinter_wasm::{ExternType, Fields, Module};
 
 /// The types of the items that a module's operators refer to.
 #[derive(Drop)]

@@ -9,8 +9,8 @@ ghost use Rattle.wasmprinter_fold.specs.Refused.{error_of_first, HasFoldReason};
 use crate::foldable::hints::check_hints;
 use crate::foldable::item_expressions::{check_bodies, check_each};
 use wasmprinter_bytes::Error;
+use wasmprinter_decoder::{Fields, Module};
 use wasmprinter_print::PrintOptions;
-use wasmprinter_wasm::{Fields, Module};
 
 /// Returns an error for the first legacy operator in constant expressions before the bodies.
 #[tactic(auto, using(crate::proofs::Steps::before_parts, crate::proofs::Steps::front_refused, crate::proofs::Steps::front_passed))]

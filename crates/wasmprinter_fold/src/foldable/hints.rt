@@ -5,15 +5,15 @@ ghost use Rattle.wasmprinter_bytes.specs.declared.library_error.Error.TheVariant
 ghost use Rattle.wasmprinter_spec.specs.Types.{FuncKind};
 ghost use Rattle.wasmprinter_spec.specs.Customs.Hints.{last_named, hints_of};
 ghost use Rattle.wasmprinter_spec.specs.Folding.Refusals.{is_hintless, place_if_misplaced, misplaced_hints_in, misplaced_hints_from};
-ghost use Rattle.wasmprinter_wasm.specs.Externs.{imported_count};
+ghost use Rattle.wasmprinter_decoder.specs.Externs.{imported_count};
 ghost use Rattle.wasmprinter_ops.specs.Shapes.{role_view};
 ghost use Rattle.wasmprinter_fold.specs.Refused.{error_of_first};
 
 use wasmprinter_bytes::Error;
 use wasmprinter_custom::{FunctionHints, Hint, is_hint_section};
+use wasmprinter_decoder::hints::hints_of;
+use wasmprinter_decoder::{Body, CustomEntry, ExternKind, Fields, Module};
 use wasmprinter_ops::opcode::{Listed, Role};
-use wasmprinter_wasm::hints::hints_of;
-use wasmprinter_wasm::{Body, CustomEntry, ExternKind, Fields, Module};
 
 /// Reports whether there is a hint section among the custom sections.
 fn has_hints(customs: &[CustomEntry<'_>]) -> bool

@@ -3,15 +3,15 @@ ghost use Rattle.std.specs.Prelude.{◌≡◌, ◌∷◌, [], map};
 ghost use Rattle.std.specs.List.{flat_map};
 ghost use Rattle.wasmprinter_bytes.specs.declared.library_error.Error.TheVariants.{FoldLegacy};
 ghost use Rattle.wasmprinter_spec.specs.Folding.Refusals.{legacy_places_in, init_list, element_lists, offset_list, item_lists, data_lists};
-ghost use Rattle.wasmprinter_wasm.specs.Segments.{element_mode_view, element_items_view};
+ghost use Rattle.wasmprinter_decoder.specs.Segments.{element_mode_view, element_items_view};
 ghost use Rattle.wasmprinter_fold.specs.Refused.{error_of_first};
 
 use crate::foldable::legacy::check_expression;
 use wasmprinter_bytes::Error;
-use wasmprinter_ops::expression::Expression;
-use wasmprinter_wasm::{
+use wasmprinter_decoder::{
     BodyParts, Data, DataMode, Element, ElementItems, ElementMode, Fields, Global, Module, Table,
 };
+use wasmprinter_ops::expression::Expression;
 
 /// An item that contains lists of operators.
 pub(crate) trait HasExpressions {

@@ -1,7 +1,7 @@
 use Rattle.std.proofs.Common.{◌∙◌, refl, sym}
 use Rattle.wasmprinter_bytes.specs.declared.library_error.Error.TheVariants.{FoldHint}
 use Rattle.wasmprinter_spec.specs.Types.{FuncKind}
-use Rattle.wasmprinter_wasm.specs.Externs.{imported_count}
+use Rattle.wasmprinter_decoder.specs.Externs.{imported_count}
 use Rattle.wasmprinter_fold.proofs.Steps.{front_refused, front_passed, handed_on, hints_next, unhinted, hintless}
 use Rattle.wasmprinter_fold.proofs.foldable.hints.check_hints.Goals as goal
 

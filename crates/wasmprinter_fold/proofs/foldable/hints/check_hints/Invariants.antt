@@ -4,7 +4,7 @@ use Rattle.wasmprinter_bytes.specs.declared.library_error.Error.TheVariants.{Fol
 use Rattle.wasmprinter_spec.specs.Types.{FuncKind}
 use Rattle.wasmprinter_spec.specs.Customs.Hints.{hints_of}
 use Rattle.wasmprinter_spec.specs.Folding.Refusals.{misplaced_hints_from}
-use Rattle.wasmprinter_wasm.specs.Externs.{imported_count}
+use Rattle.wasmprinter_decoder.specs.Externs.{imported_count}
 use Rattle.wasmprinter_fold.specs.Refused.{error_of_first}
 use Rattle.wasmprinter_fold.proofs.foldable.hints.check_hints.Given as goal
 

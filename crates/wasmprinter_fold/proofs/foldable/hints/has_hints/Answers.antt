@@ -1,6 +1,6 @@
 use Rattle.std.proofs.Common.{◌≡◌, get_or, sym, subst, ◌∙◌, codes}
 use Rattle.wasmprinter_spec.specs.Placed.{CustomEntry, custom_entry}
-use Rattle.wasmprinter_wasm.specs.Places.{after_view}
+use Rattle.wasmprinter_decoder.specs.Places.{after_view}
 use Rattle.wasmprinter_fold.proofs.Steps.{one_named}
 use Rattle.wasmprinter_fold.proofs.foldable.hints.has_hints.Goals as goal
 

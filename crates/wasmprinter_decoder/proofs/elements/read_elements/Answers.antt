@@ -1,0 +1,15 @@
+use Rattle.std.proofs.Common.{◌≡◌, refl}
+use Rattle.std.proofs.lemmas.Result.{err_from_is_err_and}
+use Rattle.wasmprinter_spec.specs.Grammar.{value_with_place}
+use Rattle.wasmprinter_spec.specs.Binary.Elements.{element}
+use Rattle.wasmprinter_spec.specs.Sections.{FunctionSection, ElementSection, holds}
+use Rattle.wasmprinter_decoder.specs.Refusals.{HoldsItems}
+use Rattle.wasmprinter_decoder.proofs.SectionLists.{grown_fault}
+use Rattle.wasmprinter_decoder.proofs.elements.read_elements.Goals as goal
+
+pub returns-in_err-elements : goal.returns-in_err-elements
+returns-in_err-elements c =
+    let (fault, failed, is) = err_from_is_err_and c.from_residual.result c.from_residual.ensures.1 in
+    rw (failed, is)
+    (grown_fault (value_with_place element) (holds ElementSection) (HoldsItems ElementSection) (ElementSection ≡ FunctionSection) tt (λ xs. refl)
+    c.args.cursor.now c.in_err-elements.field-0.0 c.in_err-elements.ensures.reads)

@@ -1,0 +1,36 @@
+-- The program's scope as the definitions express it, and the parts of it that fields use.
+use Rattle.std.specs.Prelude.{ℕ, Bool, true, false, List, [], ◌∷◌, Option, None, option_map}
+use Rattle.wasmprinter_spec.specs.Labels.{Named}
+use Rattle.wasmprinter_spec.specs.Options.{Options}
+use Rattle.wasmprinter_spec.specs.Names.{name_in}
+use Rattle.wasmprinter_spec.specs.Layout.Declarations.{scope_of, scope_of_function}
+use Rattle.wasmprinter_spec.specs.Layout.Declarations as layout
+use Rattle.wasmprinter_spec.specs.Folding.Arities.{types_of}
+use Rattle.wasmprinter_custom.specs.Spaces.{id_of, outer_of}
+use Rattle.wasmprinter_custom.specs.Views.{name_at}
+use Rattle.wasmprinter_custom.specs.declared.space.Space.{Space}
+use Rattle.wasmprinter_flat.specs.OpenLabels.LabelState.{LabelState, names_of}
+use Rattle.wasmprinter_fold.specs.Views.{FolderView, folding_view}
+use Rattle.wasmprinter_module_text.specs.declared.module_scope.Scope.{Scope}
+
+-- How operators are folded, if the options ask for it and there is a folder.
+abbrev pub folding_in : Bool → Option FolderView → Option layout.Folding
+folding_in true f = option_map folding_view f
+folding_in false f = None
+
+-- The scope of the definitions under these options.
+abbrev pub scope_view : Options → Scope → layout.Scope
+scope_view o s = scope_of (types_of s.types.module.now) (names_of s.labels) s.function (folding_in o.folds s.folder)
+
+-- The scope of the definitions, for the locals and labels of function f.
+abbrev pub function_scope_view : Options → Scope → ℕ → layout.Scope
+function_scope_view o s f = scope_of_function (scope_view o s) f
+
+-- The identifier of an item of the module. It computes to a lookup in the scope's names.
+abbrev pub item_in : LabelState → Space → ℕ → Option Named
+item_in s space number = name_in s.synthesizes (name_at s.item_names) (id_of space) (outer_of space 0) number
+
+-- Whether a list has exactly one item.
+abbrev pub is_one : {A : Type 0} → List A → Bool
+is_one (x ∷ []) = true
+is_one _ = false

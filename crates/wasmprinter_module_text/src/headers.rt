@@ -1,0 +1,35 @@
+//! The headers of functions and tags: the declaration and the type use (section 6.6 of the WebAssembly Core
+//! Specification, "Type Uses").
+ghost use Rattle.std.specs.Prelude.{Some, None};
+ghost use Rattle.wasmprinter_spec.specs.Row as row;
+ghost use Rattle.wasmprinter_spec.specs.Layout.Functions.{header_pieces};
+ghost use Rattle.wasmprinter_module_text.specs.Scopes.{scope_view};
+
+use crate::module_scope::{Scope, write_declaration_in, write_type_use_in};
+use wasmprinter_custom::Space;
+use wasmprinter_print::Output;
+
+/// Writes the header of a function, whose parameters have identifiers.
+#[tactic(auto, unfolding(wasmprinter_spec::specs::Layout::Functions::header_pieces))]
+pub fn write_function_header<O: Output>(
+    out: &mut O,
+    scope: &Scope<'_, '_>,
+    number: u64,
+    type_index: u32,
+)
+    ensures { O.wrote out.old out.new
+        (header_pieces (scope_view O.chosen scope.now) row.Func (Some number) number type_index) }
+{
+    write_declaration_in(out, scope, Space::Func, number);
+    write_type_use_in(out, scope, Some(number), type_index);
+}
+
+/// Writes the header of a tag.
+#[tactic(auto, unfolding(wasmprinter_spec::specs::Layout::Functions::header_pieces))]
+pub fn write_tag_header<O: Output>(out: &mut O, scope: &Scope<'_, '_>, number: u64, type_index: u32)
+    ensures { O.wrote out.old out.new
+        (header_pieces (scope_view O.chosen scope.now) row.Tag None number type_index) }
+{
+    write_declaration_in(out, scope, Space::Tag, number);
+    write_type_use_in(out, scope, None, type_index);
+}
