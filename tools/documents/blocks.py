@@ -17,7 +17,7 @@ SOURCES = {
         "bindings/python/README.md",
         "tools/packaging/CMakeLists.txt",
     ),
-    "CONTRIBUTING.md": ("crates/wasmprinter_flat/src/indices.rt", "crates/wasmprinter_custom/must-fail/identifier-is-the-raw-name.edit"),
+    "CONTRIBUTING.md": ("crates/wasmprinter_flat/src/index_immediates.rt", "crates/wasmprinter_custom/must-fail/identifier-is-the-raw-name.edit"),
 }
 DOC_EXAMPLES = "crates/tests_modules/src/doc_examples.rt"  # tests with the examples of documentation comments
 MESSAGES = ("bindings/cases.txt", "bindings/c/test.c", "tools/program.sh", "crates/printwasm/src/program_tests.rt")  # tests with typed messages
@@ -41,7 +41,7 @@ COMMANDS = {
     "cc bindings/c/example.c $(pkg-config --cflags --libs wasmprinter) -Wl,-rpath,$HOME/.local/lib -o example": INSTALLS,
     "rt try --test": PROVES,
     "rt check": PROVES,
-    "rt check --only wasmprinter_flat::indices::write_default_index": PROVES,
+    "rt check --only wasmprinter_flat::index_immediates::write_default_index": PROVES,
     "rt fmt": "changes files",
     "python3 tools/edits.py": STEP,
     "python3 tools/recipes.py": STEP,

@@ -6,7 +6,7 @@ use crate::layout::Layout;
 use std::alloc::Global;
 use std::test::Fail;
 use wasmprinter_expecting::expect_calls;
-use wasmprinter_samples::printer_calls::HINTED_FOLDED;
+use wasmprinter_samples::expected_calls::HINTED_FOLDED;
 use wasmprinter_samples::{
     CUSTOMS_AROUND_A_MEMORY, DYLINK_CUT, DYLINK_MEMORY, DYLINK_UNKNOWN, HINTED_IF, RAW_PRODUCERS,
     Recorder,

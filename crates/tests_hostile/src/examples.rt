@@ -3,7 +3,7 @@
 
 use crate::layout::Layout;
 use wasmprinter::Error;
-use wasmprinter_samples::printer_calls::{
+use wasmprinter_samples::expected_calls::{
     CUSTOMS_CALLS, CUT_CALLS, GLOBAL_FOLDED, HINTED_FOLDED, IDENTITY_FOLDED, MEMORY_CALLS,
     PRODUCERS_CALLS, UNKNOWN_CALLS,
 };

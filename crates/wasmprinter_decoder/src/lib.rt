@@ -2,11 +2,11 @@
 //! `decode`, and the decoded [`Module`] with its items.
 #![tactic(auto)]
 
+pub mod branch_hints;
 mod byte_checks;
 mod code;
 mod collect_names;
-pub mod custom_placement;
-pub mod customs;
+pub mod custom_sections;
 mod data_segments;
 mod decoder;
 mod elements;
@@ -16,11 +16,11 @@ mod function;
 mod functions;
 mod global_types;
 mod globals;
-pub mod hints;
 mod imports;
 mod limits;
 mod memories;
 mod module;
+pub mod section_kinds;
 mod sections;
 mod start;
 mod table_types;
@@ -29,8 +29,7 @@ mod tags;
 mod types;
 
 pub use code::{Body, BodyParts, LocalEntry, Locals};
-pub use custom_placement::{CustomEntry, SectionKind};
-pub use customs::Custom;
+pub use custom_sections::Custom;
 pub use data_segments::{Data, DataMode};
 pub use decoder::{decode, is_component};
 pub use elements::{Element, ElementItems, ElementMode};
@@ -42,6 +41,7 @@ pub use imports::{ExternType, Import};
 pub use limits::Limits;
 pub use memories::{Memory, MemoryType};
 pub use module::{Fields, Module};
+pub use section_kinds::{CustomEntry, SectionKind};
 pub use start::Start;
 pub use table_types::TableType;
 pub use tables::Table;

@@ -6,7 +6,6 @@ ghost use Rattle.wasmprinter_decoder.specs.Externs.{kind_view, imported_count};
 ghost use Rattle.wasmprinter_decoder.specs.Modules.{body_at};
 
 use crate::code::Body;
-use crate::custom_placement::CustomEntry;
 use crate::data_segments::Data;
 use crate::elements::Element;
 use crate::exports::{Export, ExternKind};
@@ -14,6 +13,7 @@ use crate::function::Function;
 use crate::globals::Global;
 use crate::imports::Import;
 use crate::memories::Memory;
+use crate::section_kinds::CustomEntry;
 use crate::start::Start;
 use crate::tables::Table;
 use crate::tags::Tag;

@@ -12,7 +12,7 @@ ghost use Rattle.wasmprinter_flat.specs.Contexts.{setting_in, labels_around, lab
 ghost use Rattle.wasmprinter_flat.specs.Settings.{form_view};
 
 use crate::immediate_context::Context;
-use crate::indices::write_operand;
+use crate::index_immediates::write_operand;
 use crate::label_immediates::write_label;
 use crate::operators::Form;
 use crate::type_immediates::write_result;
@@ -22,8 +22,8 @@ use wasmprinter_ops::opcode::Space;
 use wasmprinter_print::Output;
 use wasmprinter_text::comments::{write_label_block_comment, write_label_line_comment};
 use wasmprinter_text::indices::write_leading_id_and_name;
+use wasmprinter_text::parens_and_words::{open_group, write_close_paren, write_space};
 use wasmprinter_text::signature::{Signatures, write_type_use};
-use wasmprinter_text::words::{open_group, write_close_paren, write_space};
 
 /// Writes a space and the comment for the label of a block, by the block's number. Blocks are counted from 1.
 #[tactic(auto, unfolding(wasmprinter_spec::specs::Layout::Operators::ending_pieces))]

@@ -5,7 +5,7 @@ ghost use Rattle.wasmprinter_spec.specs.Piece.{OneSpace, Float};
 
 use wasmprinter_print::Output;
 use wasmprinter_text::floats::{write_double, write_single};
-use wasmprinter_text::words::write_space;
+use wasmprinter_text::parens_and_words::write_space;
 
 /// Writes a space and a 32-bit float.
 pub(crate) fn write_f32<O: Output>(out: &mut O, bits: u32)

@@ -12,14 +12,14 @@ ghost use Rattle.wasmprinter_flat.specs.Contexts.{pieces_in};
 use crate::block_immediates::{write_block, write_try_table};
 use crate::float_immediates::{write_f32, write_f64};
 use crate::immediate_context::Context;
-use crate::indices::{
+use crate::index_immediates::{
     write_call, write_copy, write_default_index, write_field, write_index_and_count,
     write_index_pair, write_operand, write_segment,
 };
 use crate::label_immediates::{write_label, write_labels};
-use crate::memory::write_mem_arg;
+use crate::memory_immediates::write_mem_arg;
 use crate::type_immediates::{write_cast, write_heap, write_ref, write_select};
-use crate::vectors::{write_lane, write_lanes, write_vector};
+use crate::vector_immediates::{write_lane, write_lanes, write_vector};
 use wasmprinter_ops::mem_arg::MemArg;
 use wasmprinter_ops::opcode::{Shape, Space};
 use wasmprinter_ops::operator::Immediates;

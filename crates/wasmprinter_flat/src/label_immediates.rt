@@ -16,8 +16,8 @@ use wasmprinter_text::indices::{write_id_and_name, write_index};
 use wasmprinter_text::numbers::{
     write_index as write_number, write_number_word, write_space_index,
 };
+use wasmprinter_text::parens_and_words::write_space;
 use wasmprinter_text::signature::Signatures;
-use wasmprinter_text::words::write_space;
 
 /// Writes a space and the identifier of a label. A given identifier has no style, and its name annotation follows if
 /// the name differs from it. A synthesized identifier has the style of names.

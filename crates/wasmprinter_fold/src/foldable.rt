@@ -4,6 +4,6 @@
 mod check;
 mod hints;
 mod item_expressions;
-mod legacy;
+mod legacy_operators;
 
 pub use check::check_folding;

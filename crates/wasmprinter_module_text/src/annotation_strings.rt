@@ -3,8 +3,8 @@ ghost use Rattle.wasmprinter_spec.specs.Layout.Customs.{space_quoted, space_quot
 
 use wasmprinter_custom::DylinkNames;
 use wasmprinter_print::Output;
+use wasmprinter_text::parens_and_words::write_space;
 use wasmprinter_text::strings::write_string;
-use wasmprinter_text::words::write_space;
 
 /// The nesting depth of the annotation of a section.
 pub(crate) const SECTION_NESTING: u64 = 1;

@@ -5,13 +5,13 @@ ghost use Rattle.wasmprinter_decoder.specs.Segments.{data_mode_view};
 ghost use Rattle.wasmprinter_module_text.specs.Scopes.{scope_view};
 
 use crate::expressions::write_constant_group;
-use crate::fields::Field;
 use crate::module_scope::{Scope, write_declaration_in, write_index_group_in};
+use crate::single_field::Field;
 use wasmprinter_custom::Space;
 use wasmprinter_decoder::{Data, DataMode};
 use wasmprinter_print::{FoldingOutput, Output};
 use wasmprinter_text::data_strings::write_shown_bytes;
-use wasmprinter_text::words::write_space;
+use wasmprinter_text::parens_and_words::write_space;
 
 /// Writes the memory of a segment and a space, or nothing for memory 0.
 fn write_named_memory<O: Output>(out: &mut O, scope: &Scope<'_, '_>, memory: u32)

@@ -12,10 +12,10 @@ use wasmprinter_print::Output;
 use wasmprinter_text::annotations::open_annotation;
 use wasmprinter_text::lines::{close_group, write_break};
 use wasmprinter_text::numbers::write_number_word;
-use wasmprinter_text::strings::write_string;
-use wasmprinter_text::words::{
+use wasmprinter_text::parens_and_words::{
     open_group, open_group_space, open_plain, write_close_paren, write_space,
 };
+use wasmprinter_text::strings::write_string;
 
 /// Writes a space and a group of a word, a size and an alignment. Writes nothing if both numbers are 0.
 #[tactic(auto, unfolding(wasmprinter_spec::specs::Layout::Customs::sizes_group))]

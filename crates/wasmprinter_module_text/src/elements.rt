@@ -10,16 +10,16 @@ ghost use Rattle.wasmprinter_decoder.specs.Segments.{element_mode_view, element_
 ghost use Rattle.wasmprinter_module_text.specs.Scopes.{scope_view};
 
 use crate::expressions::write_constant_group;
-use crate::fields::Field;
 use crate::module_scope::{
     Scope, write_declaration_in, write_index_group_in, write_index_in, write_ref_type_in,
 };
+use crate::single_field::Field;
 use wasmprinter_bytes::lazy_items::Items;
 use wasmprinter_custom::Space;
 use wasmprinter_decoder::{Element, ElementItems, ElementMode};
 use wasmprinter_ops::expression::Expression;
 use wasmprinter_print::{FoldingOutput, Output};
-use wasmprinter_text::words::{write_space, write_word};
+use wasmprinter_text::parens_and_words::{write_space, write_word};
 
 /// Writes a space and the table of a segment if the bytes name the table.
 fn write_named_table<O: Output>(out: &mut O, scope: &Scope<'_, '_>, is_named: bool, table: u32)

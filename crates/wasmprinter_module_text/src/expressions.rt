@@ -13,7 +13,7 @@ use wasmprinter_flat::operators::{Form, Setting, write_operators};
 use wasmprinter_ops::expression::Expression;
 use wasmprinter_print::{FoldingOutput, Output};
 use wasmprinter_text::lines::close_group;
-use wasmprinter_text::words::{open_unnamed, write_space, write_word};
+use wasmprinter_text::parens_and_words::{open_unnamed, write_space, write_word};
 
 /// The nesting depth of an expression in a field, and of a group that contains an expression.
 const EXPRESSION_NESTING: u64 = 2;

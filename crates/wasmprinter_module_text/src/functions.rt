@@ -15,8 +15,10 @@ use wasmprinter_decoder::{BodyParts, Function};
 use wasmprinter_flat::operators::{Form, Setting};
 use wasmprinter_print::{FoldingOutput, Output};
 use wasmprinter_text::lines::{close_group_at, write_break};
+use wasmprinter_text::parens_and_words::{
+    open_group_space, write_close_paren, write_space, write_word,
+};
 use wasmprinter_text::signature::Signatures;
-use wasmprinter_text::words::{open_group_space, write_close_paren, write_space, write_word};
 
 /// The nesting depth of the operators of a body.
 const BODY_NESTING: u64 = 2;

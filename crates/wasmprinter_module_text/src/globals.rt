@@ -7,12 +7,12 @@ ghost use Rattle.wasmprinter_flat.specs.OpenLabels.LabelState.{names_of};
 ghost use Rattle.wasmprinter_module_text.specs.Scopes.{scope_view};
 
 use crate::expressions::write_constant;
-use crate::fields::Field;
 use crate::module_scope::{Scope, write_declaration_in, write_val_type_in};
+use crate::single_field::Field;
 use wasmprinter_custom::Space;
 use wasmprinter_decoder::{Global, GlobalType};
 use wasmprinter_print::{FoldingOutput, Output};
-use wasmprinter_text::words::{open_type_space, write_close_paren, write_space};
+use wasmprinter_text::parens_and_words::{open_type_space, write_close_paren, write_space};
 
 /// Writes the type of a global, in a group `(mut ..)` if the global is mutable.
 #[tactic(auto, unfolding(wasmprinter_spec::specs::Layout::Globals::global_type_pieces))]

@@ -6,17 +6,17 @@ ghost use Rattle.wasmprinter_decoder.specs.Externs.{extern_view, HasPage};
 ghost use Rattle.wasmprinter_module_text.specs.Scopes.{scope_view};
 
 use crate::exports::kind_word;
-use crate::fields::{Field, write_field};
 use crate::globals::write_declared_global;
 use crate::headers::{write_function_header, write_tag_header};
 use crate::memories::write_declared_memory;
 use crate::module_scope::Scope;
+use crate::single_field::{Field, write_field};
 use crate::tables::write_declared_table;
 use std::marker::Model;
 use wasmprinter_decoder::{ExternType, Import};
 use wasmprinter_print::{FoldingOutput, Output};
+use wasmprinter_text::parens_and_words::{open_group_space, write_close_paren, write_space};
 use wasmprinter_text::strings::write_string;
-use wasmprinter_text::words::{open_group_space, write_close_paren, write_space};
 
 /// The number of preceding imports of each kind.
 #[derive(Drop)]

@@ -3,13 +3,12 @@
 #![tactic(auto)]
 
 mod annotation_strings;
-mod customs;
+mod custom_sections;
 mod data_segments;
 mod dylink;
 mod elements;
 mod exports;
 mod expressions;
-mod fields;
 mod functions;
 mod globals;
 mod headers;
@@ -23,12 +22,13 @@ mod operators;
 mod producers;
 mod raw;
 mod section_fields;
-mod sections_in_order;
+mod single_field;
 mod start;
 mod symbol_flag_printing;
 mod tables;
 mod tags;
 mod types;
+mod whole_module;
 
-pub use customs::{write_custom, write_customs};
+pub use custom_sections::{write_custom, write_customs};
 pub use module_printing::print_module;

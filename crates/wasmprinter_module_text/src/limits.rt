@@ -5,7 +5,7 @@ ghost use Rattle.wasmprinter_decoder.specs.Externs.{limits_view};
 use wasmprinter_decoder::Limits;
 use wasmprinter_print::Output;
 use wasmprinter_text::limits::write_limits;
-use wasmprinter_text::words::write_type_word_space;
+use wasmprinter_text::parens_and_words::write_type_word_space;
 
 /// Writes the address type `i64` if addresses have 64 bits.
 pub(crate) fn write_wide<O: Output>(out: &mut O, wide: bool)

@@ -6,14 +6,14 @@ ghost use Rattle.wasmprinter_spec.specs.Layout.Memories.{shared_pieces, page_pie
 ghost use Rattle.wasmprinter_decoder.specs.Externs.{memory_type_view, IsPage};
 ghost use Rattle.wasmprinter_module_text.specs.Scopes.{scope_view};
 
-use crate::fields::Field;
 use crate::limits::{write_sizes, write_wide};
 use crate::module_scope::{Scope, write_declaration_in};
+use crate::single_field::Field;
 use wasmprinter_custom::Space;
 use wasmprinter_decoder::{Memory, MemoryType};
 use wasmprinter_print::{FoldingOutput, Output};
 use wasmprinter_text::limits::write_page_size;
-use wasmprinter_text::words::{
+use wasmprinter_text::parens_and_words::{
     open_group_space, write_close_paren, write_space, write_space_type_word,
 };
 

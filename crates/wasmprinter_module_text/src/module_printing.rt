@@ -7,7 +7,7 @@ ghost use Rattle.wasmprinter_flat.specs.OpenLabels.LabelState.{names_of};
 ghost use Rattle.wasmprinter_module_text.specs.Endings.{PrintsLaid};
 ghost use Rattle.wasmprinter_module_text.specs.Sections.{module_laid, Folds};
 
-use crate::sections_in_order::write_module;
+use crate::whole_module::write_module;
 use std::alloc::Global;
 use std::marker::Brand;
 use wasmprinter_bytes::Error;

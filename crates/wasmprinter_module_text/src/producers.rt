@@ -8,8 +8,8 @@ use wasmprinter_custom::{Producers, ProducersField, Value};
 use wasmprinter_print::Output;
 use wasmprinter_text::annotations::{open_annotation, open_annotation_word};
 use wasmprinter_text::lines::{close_group, write_break};
+use wasmprinter_text::parens_and_words::{write_close_paren, write_space};
 use wasmprinter_text::strings::write_string;
-use wasmprinter_text::words::{write_close_paren, write_space};
 
 /// Writes a value of a field, on a line of its own.
 #[tactic(auto, unfolding(wasmprinter_spec::specs::Layout::Customs::values_pieces))]

@@ -4,13 +4,13 @@ ghost use Rattle.wasmprinter_spec.specs.Layout.Customs.{section_word as word_of_
 ghost use Rattle.wasmprinter_decoder.specs.Places.{section_kind_view, after_view};
 
 use crate::annotation_strings::SECTION_NESTING;
-use wasmprinter_decoder::custom_placement::{CustomEntry, SectionKind};
+use wasmprinter_decoder::section_kinds::{CustomEntry, SectionKind};
 use wasmprinter_print::Output;
 use wasmprinter_text::annotations::{open_annotation_space, write_plain_line_comment};
 use wasmprinter_text::data_strings::write_shown_bytes;
 use wasmprinter_text::lines::write_break;
+use wasmprinter_text::parens_and_words::{open_plain, write_close_paren, write_space, write_word};
 use wasmprinter_text::strings::write_string;
-use wasmprinter_text::words::{open_plain, write_close_paren, write_space, write_word};
 
 /// Returns the word for the kind of section that a custom section follows.
 fn section_word(kind: SectionKind) -> &'static str

@@ -7,13 +7,13 @@ ghost use Rattle.wasmprinter_flat.specs.OpenLabels.LabelState.{names_of};
 ghost use Rattle.wasmprinter_module_text.specs.Scopes.{scope_view};
 
 use crate::expressions::write_constant;
-use crate::fields::Field;
 use crate::limits::{write_sizes, write_wide};
 use crate::module_scope::{Scope, write_declaration_in, write_ref_type_in};
+use crate::single_field::Field;
 use wasmprinter_custom::Space;
 use wasmprinter_decoder::{Table, TableType};
 use wasmprinter_print::{FoldingOutput, Output};
-use wasmprinter_text::words::write_space;
+use wasmprinter_text::parens_and_words::write_space;
 
 /// Writes the type of a table.
 #[tactic(auto, unfolding(wasmprinter_spec::specs::Layout::Tables::table_type_pieces))]

@@ -12,7 +12,7 @@ use wasmprinter_decoder::TypeGroup;
 use wasmprinter_ops::composite_types::SubType;
 use wasmprinter_print::Output;
 use wasmprinter_text::lines::{close_group, write_break};
-use wasmprinter_text::words::open_group;
+use wasmprinter_text::parens_and_words::open_group;
 
 /// The nesting depth of the types of a `rec` group.
 const MEMBER_NESTING: u64 = 2;

@@ -2,9 +2,9 @@
 //! typed by hand: bytes by the binary format, texts by the text format and the layout.
 #![tactic(auto)]
 
+pub mod expected_calls;
 pub mod modules;
 pub mod parts;
-pub mod printer_calls;
 mod recorder;
 pub mod sections;
 mod text_comparison;

@@ -4,7 +4,7 @@ ghost use Rattle.std.specs.Prelude.{[], ◌∷◌, ◌++◌};
 ghost use Rattle.wasmprinter_spec.specs.Piece.{OpenAnnotation, OpenAnnotationSpace, OpenAnnotationWord, PlainLineComment};
 
 use crate::comments::write_between;
-use crate::words::{write_in_style, write_two_in_style};
+use crate::parens_and_words::{write_in_style, write_two_in_style};
 use wasmprinter_print::{Output, Style};
 
 /// Opens an annotation: a parenthesis, the sign `@` and a name.

@@ -1,8 +1,8 @@
 //! The bytes of data segments and custom sections.
 ghost use Rattle.wasmprinter_spec.specs.Layout.DataSegments.{shown_bytes};
 
+use crate::parens_and_words::write_word;
 use crate::strings::write_byte_string;
-use crate::words::write_word;
 use wasmprinter_print::Output;
 
 /// Writes bytes as a quoted string, or `...` in a skeleton.

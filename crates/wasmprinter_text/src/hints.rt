@@ -4,7 +4,7 @@ ghost use Rattle.wasmprinter_spec.specs.Options.{defaults};
 ghost use Rattle.wasmprinter_spec.specs.Piece.{HintAnnotation, flag_byte, text};
 ghost use Rattle.wasmprinter_spec.specs.Quoted.{quoted_bytes};
 
-use crate::words::write_in_style;
+use crate::parens_and_words::write_in_style;
 use wasmprinter_print::{Output, Style};
 
 /// The annotation of an operator that is likely to branch.

@@ -13,7 +13,7 @@ use crate::comments::write_index_comment;
 use crate::identifiers::{
     write_identifier as write_content, write_name_annotation, write_synthesized_identifier,
 };
-use crate::words::{
+use crate::parens_and_words::{
     begin_name, end_style, open_group_space, write_close_paren, write_in_style, write_space,
 };
 use itoa::Buffer;

@@ -4,7 +4,7 @@ ghost use Rattle.std.specs.Fmt.{digits, digit_glyph};
 ghost use Rattle.wasmprinter_spec.specs.Call.{Text};
 ghost use Rattle.wasmprinter_spec.specs.Piece.{OneSpace, Word, Number, Constant};
 
-use crate::words::{write_in_style, write_space, write_two_in_style};
+use crate::parens_and_words::{write_in_style, write_space, write_two_in_style};
 use itoa::Buffer;
 use wasmprinter_print::{Output, Style};
 

@@ -7,8 +7,8 @@ ghost use Rattle.wasmprinter_spec.specs.Layout.Types.{signature_if_any, type_use
 ghost use Rattle.wasmprinter_custom.specs.Shown.{names_of_identifiers};
 
 use crate::indices::write_index_group;
+use crate::parens_and_words::write_space;
 use crate::types::write_signature;
-use crate::words::write_space;
 use wasmprinter_custom::{Identifiers, Space};
 use wasmprinter_ops::composite_types::FuncType;
 use wasmprinter_print::Output;

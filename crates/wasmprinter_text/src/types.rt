@@ -13,10 +13,10 @@ pub mod composite;
 pub mod variables;
 
 use crate::indices::write_index_of;
-use crate::types::variables::write_params;
-use crate::words::{
+use crate::parens_and_words::{
     open_group, open_group_space, write_close_paren, write_space, write_type_word, write_word,
 };
+use crate::types::variables::write_params;
 use wasmprinter_custom::{Identifiers, Space};
 use wasmprinter_ops::composite_types::FuncType;
 use wasmprinter_ops::{HeapType, RefType, ValType, ValTypes};

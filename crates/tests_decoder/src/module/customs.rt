@@ -7,7 +7,7 @@ use crate::module::modules::{
 use std::alloc::{AllocError, Global};
 use std::test::Fail;
 use wasmprinter_custom::{Names, Space};
-use wasmprinter_decoder::customs::Custom;
+use wasmprinter_decoder::custom_sections::Custom;
 use wasmprinter_decoder::{CustomEntry, Fields, Module};
 
 /// A name section with the names `m` for the module and `a` for function 0.

@@ -17,7 +17,7 @@ use wasmprinter_flat::operators::{Form, start_operator};
 use wasmprinter_print::{FoldingOutput, Output};
 use wasmprinter_text::hints::hint_text;
 use wasmprinter_text::lines::write_break_inside;
-use wasmprinter_text::words::{open_plain, write_close_paren, write_word};
+use wasmprinter_text::parens_and_words::{open_plain, write_close_paren, write_word};
 
 /// Returns the text of a head.
 fn text_of_head<'t>(text: &'t str, head: &NodeText) -> &'t str

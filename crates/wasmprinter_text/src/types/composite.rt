@@ -9,10 +9,10 @@ ghost use Rattle.wasmprinter_ops.specs.Types.{storage_view, field_view, fields_v
 ghost use Rattle.wasmprinter_text.specs.Items.{owned_field, owned_fields};
 
 use crate::indices::{write_declaration_of, write_identifier_space};
-use crate::types::{write_signature, write_type_number, write_val_type};
-use crate::words::{
+use crate::parens_and_words::{
     open_group, open_group_space, open_plain, write_close_paren, write_space, write_word,
 };
+use crate::types::{write_signature, write_type_number, write_val_type};
 use wasmprinter_custom::{Identifier, Identifiers, Space};
 use wasmprinter_ops::composite_types::{
     CompositeType, FieldType, FieldTypes, FuncType, StorageType, SubType, TypeIndices,

@@ -12,8 +12,8 @@ ghost use Rattle.wasmprinter_ops.specs.ValTypes.{val_type_view, val_types_view};
 ghost use Rattle.wasmprinter_text.specs.Variables.{front_pieces, end_pieces, before_next, first_pieces, unnamed_pieces, variable_pieces};
 
 use crate::indices::write_id_and_name_space;
+use crate::parens_and_words::{open_group, write_close_paren, write_space};
 use crate::types::{write_space_val_type, write_val_type};
-use crate::words::{open_group, write_close_paren, write_space};
 use wasmprinter_custom::{Identifier, Identifiers, Space};
 use wasmprinter_ops::{ValType, ValTypes};
 use wasmprinter_print::Output;

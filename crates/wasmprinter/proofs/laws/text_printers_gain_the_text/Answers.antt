@@ -1,5 +1,0 @@
-use Rattle.wasmprinter.proofs.Gained.{gains_text}
-use Rattle.wasmprinter.proofs.laws.text_printers_gain_the_text.Goals as goal
-
-pub returns : goal.returns
-returns g c view grows = gains_text view g.T.PrintText.writes grows

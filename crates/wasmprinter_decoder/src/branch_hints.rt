@@ -1,0 +1,26 @@
+//! The branch hints of a module (Code Metadata, a document beside the standard).
+ghost use Rattle.std.specs.Prelude.{◌≡◌};
+ghost use Rattle.wasmprinter_spec.specs.Customs.Hints.{hints_of};
+
+use crate::section_kinds::CustomEntry;
+use wasmprinter_custom::{Hints, is_hint_section};
+
+/// Returns the branch hints of a module's custom sections: those of the last hint section.
+pub fn hints_of<'a>(customs: &[CustomEntry<'a>]) -> Hints<'a>
+    ensures { result ≡ hints_of customs.now }
+{
+    let mut last = None;
+    for entry in customs {
+        if is_hint_section(entry.section.name()) {
+            last = Some(&entry.section);
+        }
+    }
+    match last {
+        Some(section) => {
+            let content = section.cursor();
+            prove!(content.end() <= u64::MAX);
+            Hints::of_section(content.place(), content.rest())
+        }
+        None => Hints::none(),
+    }
+}
