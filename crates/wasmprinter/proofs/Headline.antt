@@ -12,7 +12,7 @@ use Rattle.wasmprinter_spec.specs.Layout.{layout, refusal}
 use Rattle.wasmprinter_spec.specs.Text.Hints.{text_hints}
 use Rattle.wasmprinter_spec.specs.Read.{read}
 use Rattle.wasmprinter_print.specs.Change.{Change}
-use Rattle.wasmprinter_print.specs.Made.{Whole}
+use Rattle.wasmprinter_print.specs.MadeCalls.{Whole}
 use Rattle.wasmprinter_spec.proofs.Texts.{alike_texts}
 use Rattle.wasmprinter_laws.proofs.Main.{reads_back, prints_plain_text}
 use Rattle.wasmprinter_laws.proofs.Hints.Kept.{hints_stay}

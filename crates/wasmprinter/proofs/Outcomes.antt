@@ -12,7 +12,7 @@ use Rattle.wasmprinter_spec.specs.Piece.{all_calls}
 use Rattle.wasmprinter_spec.specs.Layout.{module_pieces, layout, refusal}
 use Rattle.wasmprinter_spec.specs.Layout.Customs.{Laid}
 use Rattle.wasmprinter_print.specs.Change.{Change}
-use Rattle.wasmprinter_print.specs.Made.{Made, Broken, Interrupted, Ending, Through, AtCall, Stopped, Never, when_out_of_memory}
+use Rattle.wasmprinter_print.specs.MadeCalls.{MadeCalls, Broken, Interrupted, Ending, Through, AtCall, Stopped, Never, when_out_of_memory}
 use Rattle.wasmprinter_bytes.specs.declared.library_error.Error.{Error}
 use Rattle.wasmprinter_bytes.specs.declared.library_error.Error.TheVariants.{Malformed, Component, TooManyLocals, TooManyFunctions, EmptyTableInit, FoldLegacy, FoldHint, DylinkSubsection, Printer, Memory}
 use Rattle.std.specs.declared.io.Error.{Error as IoError}
@@ -136,7 +136,7 @@ module _ {P : Type 0} (printer : Change P) (colors : Bool) (o : Options) {bytes 
 
   -- These calls were made, up to how printing ended.
   abbrev AreMade : Ending → List Call → Type 0
-  AreMade r calls = Made printer.meaning printer.old printer.new r calls
+  AreMade r calls = MadeCalls printer.meaning printer.old printer.new r calls
 
   -- The calls of the module's pieces are those of its layout.
   made : (r : Ending) → AreMade r (all_calls by (module_pieces by answers d.placed)) → AreMade r (layout by answers d.placed)

@@ -8,7 +8,7 @@ use Rattle.wasmprinter_spec.specs.Options.{Options, Answers, with_color}
 use Rattle.wasmprinter_spec.specs.Layout.{layout}
 use Rattle.wasmprinter_spec.proofs.Texts.{alike_texts}
 use Rattle.wasmprinter_print.specs.Change.{Change}
-use Rattle.wasmprinter_print.specs.Made.{Broken, Interrupted}
+use Rattle.wasmprinter_print.specs.MadeCalls.{Broken, Interrupted}
 use Rattle.wasmprinter_print.specs.MadeLaws.{atoms-append}
 use Rattle.wasmprinter.specs.Outcome.{MadeUpTo, WhilePrinting}
 use Rattle.wasmprinter.specs.Prefix.{IsPrefixText, IsTextBefore, PutsPrefix, PutsTextBefore}

@@ -15,7 +15,7 @@ use Rattle.wasmprinter_spec.specs.Layout.{early_scope, section_pieces, section_o
 use Rattle.wasmprinter_spec.specs.Layout.Customs.{Part, Shown, Laid, laid_parts, treatment_part, custom_part, same_after, parts_at}
 use Rattle.wasmprinter_print.specs.Change.{Change}
 use Rattle.wasmprinter_print.specs.MadeLaws.{atoms-append}
-use Rattle.wasmprinter_print.specs.Made.{Whole}
+use Rattle.wasmprinter_print.specs.MadeCalls.{Whole}
 use Rattle.wasmprinter_print.specs.EffectLaws.{all_calls-append}
 use Rattle.wasmprinter_module_text.proofs.Joined.{laid_after, joined-append}
 use Rattle.wasmprinter.specs.Outcome.{AnyIsUnknown, IsRefused, AnyIsRefused, MadeUpTo}

@@ -11,7 +11,7 @@ use Rattle.wasmprinter_spec.specs.Options.{Options, Answers, with_color}
 use Rattle.wasmprinter_spec.specs.Layout.{layout, refusal}
 use Rattle.wasmprinter_spec.specs.Folding.Refusals.{IsFirstLegacy, IsFirstMisplaced, IsFoldable}
 use Rattle.wasmprinter_print.specs.Change.{Change}
-use Rattle.wasmprinter_print.specs.Made.{Whole, Broken, Interrupted}
+use Rattle.wasmprinter_print.specs.MadeCalls.{Whole, Broken, Interrupted}
 use Rattle.wasmprinter_bytes.specs.Reasons.{Reasons}
 use Rattle.wasmprinter_bytes.specs.declared.library_error.Error.{Error}
 use Rattle.wasmprinter_bytes.specs.declared.library_error.Error.TheVariants.{Malformed, Component, TooManyLocals, TooManyFunctions, EmptyTableInit, FoldLegacy, FoldHint, DylinkSubsection, Unreadable, Printer, Memory}

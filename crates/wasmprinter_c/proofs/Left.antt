@@ -11,7 +11,7 @@ use Rattle.wasmprinter_spec.specs.Layout.{layout}
 use Rattle.wasmprinter_spec.proofs.Each.{all_both}
 use Rattle.wasmprinter_spec.proofs.Texts.{text_of-append}
 use Rattle.wasmprinter_print.proofs.Prefixes.{broken_parts}
-use Rattle.wasmprinter_print.specs.Made.{Broken}
+use Rattle.wasmprinter_print.specs.MadeCalls.{Broken}
 use Rattle.wasmprinter.specs.Printed.{Printed}
 use Rattle.wasmprinter.specs.Outcome.{HasListedCause, IsPrintRefusal, Leaves, LeavesBeginning}
 use Rattle.wasmprinter.proofs.Prefixes.{failed_puts, stopped_puts, refused_puts}

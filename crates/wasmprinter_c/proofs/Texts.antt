@@ -8,7 +8,7 @@ use Rattle.wasmprinter_bytes.specs.declared.library_error.Error.TheVariants.{Pri
 use Rattle.wasmprinter_spec.specs.Call.{Text, text_of}
 use Rattle.wasmprinter_spec.proofs.Texts.{alike_texts}
 use Rattle.wasmprinter_text.proofs.Digits.{digits-length}
-use Rattle.wasmprinter_print.specs.Made.{Whole, Broken, Made, outcome}
+use Rattle.wasmprinter_print.specs.MadeCalls.{Whole, Broken, MadeCalls, outcome}
 use Rattle.wasmprinter_c.specs.Over.{over}
 use Rattle.wasmprinter_c.specs.Copied.{copied_meaning}
 use Rattle.wasmprinter_c.specs.Events.{events}
@@ -80,12 +80,12 @@ never_broken old new x text fresh roomy short b =
     let same = ap length (append-nil text) in
     omega (arith, long, same, roomy, short)
 
-emitted : (old new : Copier) (r : Result (Unit {0}) Error) (text : List ℕ) → IsFresh old → 200 ≤ old.limit → IsShort text → Made copied_meaning old new (outcome r) (Text text ∷ []) → HasAll old text new
+emitted : (old new : Copier) (r : Result (Unit {0}) Error) (text : List ℕ) → IsFresh old → 200 ≤ old.limit → IsShort text → MadeCalls copied_meaning old new (outcome r) (Text text ∷ []) → HasAll old text new
 emitted old new (Ok x) text fresh roomy short m = whole_written old new text fresh m.made
 emitted old new (Err (Printer e)) text fresh roomy short m = absurd (never_broken old new e text fresh roomy short m.made)
 emitted old new (Err _) text fresh roomy short m = absurd m.made
 
 pub described : (old new : Copier) (r : Result (Unit {0}) Error) (status detail : ℕ) → old.written ≡ 0 → old.count ≡ 0 → 200 ≤ old.limit →
-    Made copied_meaning old new (outcome r) (Text (message status detail) ∷ []) → HasAll old (message status detail) new
+    MadeCalls copied_meaning old new (outcome r) (Text (message status detail) ∷ []) → HasAll old (message status detail) new
 described old new r status detail text table roomy m =
     emitted old new r (message status detail) (record { text = text; table = table }) roomy (short_message status detail) m

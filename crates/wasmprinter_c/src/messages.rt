@@ -1,7 +1,7 @@
 //! The descriptions of statuses.
 ghost use Rattle.std.specs.Prelude.{◌∷◌, []};
 ghost use Rattle.wasmprinter_spec.specs.Call.{Text};
-ghost use Rattle.wasmprinter_print.specs.Made.{Made, outcome};
+ghost use Rattle.wasmprinter_print.specs.MadeCalls.{MadeCalls, outcome};
 ghost use Rattle.wasmprinter_c.specs.Copied.{copied_meaning};
 ghost use Rattle.wasmprinter_c.specs.Messages.{message};
 
@@ -67,7 +67,7 @@ fn write_message<O: Output>(out: &mut O, status: u32, detail: u64)
 
 /// Writes the description of a status with its detail to a buffer.
 pub(crate) fn describe(copier: &mut Copier<'_>, status: u32, detail: u64) -> Result<(), Error>
-    ensures { Made copied_meaning copier.old copier.new (outcome result) (Text (message status detail) ∷ []) }
+    ensures { MadeCalls copied_meaning copier.old copier.new (outcome result) (Text (message status detail) ∷ []) }
 {
     write_value(copier, &Description { status, detail })
 }

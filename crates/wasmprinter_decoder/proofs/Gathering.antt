@@ -10,7 +10,7 @@ use Rattle.wasmprinter_bytes.specs.declared.library_error.Error.{Error}
 use Rattle.wasmprinter_bytes.specs.Reasons.{HasReason}
 use Rattle.wasmprinter_bytes.proofs.Reasons.{reason_implied}
 use Rattle.wasmprinter_decoder.specs.Refusals.{FirstIsOver, FirstIsEmpty}
-use Rattle.wasmprinter_decoder.specs.Contents.{IsSmall, HasCount, HasOver, HasEmpty, item_count}
+use Rattle.wasmprinter_decoder.specs.Contents.{IsSectionWithinLimits, HasCount, HasOver, HasEmpty, item_count}
 use Rattle.wasmprinter_decoder.specs.Sections.{section_reasons}
 use Rattle.wasmprinter_decoder.specs.Gathering.{Gathered, none_gathered, Kept, gathered_items, with_section, IsHeld, sections_at, item_count_in, HoldsSections, sections_reasons}
 use Rattle.wasmprinter_decoder.proofs.LaterPlaces.{IsLater, later_none, later_more, many_later, empty_later, section_later, kept_later, custom_read}
@@ -29,7 +29,7 @@ pub record Gathering (start at : Input) (g : Gathered) : Type 0 where
   pub sections : List Section
   pub is : sections_at start ≡ in_front sections (sections_at at)
   pub rise : are_above 0 sections ≡ true
-  pub small : AllByRecursion IsSmall sections
+  pub small : AllByRecursion IsSectionWithinLimits sections
   pub rank : g.rank ≡ last_rank 0 sections
   pub after : g.after ≡ last_kind None sections
   pub held : IsHeld g sections
@@ -61,7 +61,7 @@ front_front xs s None = refl
 front_front xs s (Some ss) = ap (λ (ys : List Section). Some ys) (sym (append_assoc xs (s ∷ []) ss))
 
 -- If all sections and one more are within the limits, then so is the longer list.
-small-push : (ss : List Section) (s : Section) → AllByRecursion IsSmall ss → IsSmall s → AllByRecursion IsSmall (ss ++ s ∷ [])
+small-push : (ss : List Section) (s : Section) → AllByRecursion IsSectionWithinLimits ss → IsSectionWithinLimits s → AllByRecursion IsSectionWithinLimits (ss ++ s ∷ [])
 small-push [] s all small = (small, tt)
 small-push (x ∷ xs) s all small = (all.0, small-push xs s all.1 small)
 
@@ -72,7 +72,7 @@ module _ (start at after : Input) (g : Gathered) (s : Section) (read : section.p
   one_more = k.is ∙ ap (in_front k.sections) (until_item section takes_byte at after s read) ∙ front_front k.sections s (sections_at after)
 
   -- If the section is in order, then the invariant holds after it.
-  pub gathering_more : IsSmall s → follows g.rank (rank (section_kind s)) ≡ true → end_of after ≡ end_of at → (next : Gathered) → next ≡ with_section g s → Gathering start after next
+  pub gathering_more : IsSectionWithinLimits s → follows g.rank (rank (section_kind s)) ≡ true → end_of after ≡ end_of at → (next : Gathered) → next ≡ with_section g s → Gathering start after next
   gathering_more small on ends next same = record {
     sections = k.sections ++ s ∷ [];
     is = one_more;

@@ -12,7 +12,7 @@ use Rattle.wasmprinter_spec.specs.Binary.{type_indices_in, tables_in, bodies_in}
 use Rattle.wasmprinter_spec.specs.Limits.{most_functions}
 use Rattle.wasmprinter_spec.proofs.Ordered.{with_one, held_push, held_each, held_midst, held_picked}
 use Rattle.wasmprinter_decoder.specs.Refusals.{HasFew, FirstIsOver, FirstIsEmpty}
-use Rattle.wasmprinter_decoder.specs.Contents.{HasNoEmpty, IsSmall, HasCount, HasOver, HasEmpty, item_count}
+use Rattle.wasmprinter_decoder.specs.Contents.{HasNoEmpty, IsSectionWithinLimits, HasCount, HasOver, HasEmpty, item_count}
 use Rattle.wasmprinter_decoder.specs.declared.section_kinds.SectionKind.{SectionKind}
 use Rattle.wasmprinter_decoder.specs.Places.{after_view}
 use Rattle.wasmprinter_decoder.specs.Gathering.{Gathered, none_gathered, Kept, gathered_items, section_items, with_section, IsHeld, item_count_in}
@@ -146,9 +146,9 @@ pub record HoldsFew (g : Gathered) : Type 0 where
   pub locals : AllByRecursion HasFew g.bodies
 
 -- If all sections are within the limits, then so are the gathered contents.
-pub few_held : (g : Gathered) (ss : List Section) → AllByRecursion IsSmall ss → IsHeld g ss → HoldsFew g
+pub few_held : (g : Gathered) (ss : List Section) → AllByRecursion IsSectionWithinLimits ss → IsHeld g ss → HoldsFew g
 few_held g ss small held = record {
-  functions = subst (λ (is : List ℕ). length is ≤ most_functions) (sym (held FunctionSection)) (held_each FunctionSection IsSmall [] ss small (lit≤ tt));
-  tables = subst (AllByRecursion HasNoEmpty) (sym (held TableSection)) (held_each TableSection IsSmall [] ss small tt);
-  locals = subst (AllByRecursion HasFew) (sym (held CodeSection)) (held_each CodeSection IsSmall [] ss small tt);
+  functions = subst (λ (is : List ℕ). length is ≤ most_functions) (sym (held FunctionSection)) (held_each FunctionSection IsSectionWithinLimits [] ss small (lit≤ tt));
+  tables = subst (AllByRecursion HasNoEmpty) (sym (held TableSection)) (held_each TableSection IsSectionWithinLimits [] ss small tt);
+  locals = subst (AllByRecursion HasFew) (sym (held CodeSection)) (held_each CodeSection IsSectionWithinLimits [] ss small tt);
 }

@@ -23,21 +23,21 @@ HasNoEmpty t = HasNoEmptyInit t.value.init
 
 -- The section is within the limits: no body has too many locals, there are not too many functions, and no table
 -- has an empty initialiser.
-abbrev pub IsSmall : SectionValue → Type 0
-IsSmall (holds CustomSection c) = Unit {0}
-IsSmall (holds TypeSection ts) = Unit {0}
-IsSmall (holds ImportSection is) = Unit {0}
-IsSmall (holds FunctionSection is) = length is ≤ most_functions
-IsSmall (holds TableSection ts) = AllByRecursion HasNoEmpty ts
-IsSmall (holds MemorySection ms) = Unit {0}
-IsSmall (holds TagSection ts) = Unit {0}
-IsSmall (holds GlobalSection gs) = Unit {0}
-IsSmall (holds ExportSection es) = Unit {0}
-IsSmall (holds StartSection f) = Unit {0}
-IsSmall (holds ElementSection es) = Unit {0}
-IsSmall (holds DataCountSection n) = Unit {0}
-IsSmall (holds CodeSection bs) = AllByRecursion HasFew bs
-IsSmall (holds DataSection ds) = Unit {0}
+abbrev pub IsSectionWithinLimits : SectionValue → Type 0
+IsSectionWithinLimits (holds CustomSection c) = Unit {0}
+IsSectionWithinLimits (holds TypeSection ts) = Unit {0}
+IsSectionWithinLimits (holds ImportSection is) = Unit {0}
+IsSectionWithinLimits (holds FunctionSection is) = length is ≤ most_functions
+IsSectionWithinLimits (holds TableSection ts) = AllByRecursion HasNoEmpty ts
+IsSectionWithinLimits (holds MemorySection ms) = Unit {0}
+IsSectionWithinLimits (holds TagSection ts) = Unit {0}
+IsSectionWithinLimits (holds GlobalSection gs) = Unit {0}
+IsSectionWithinLimits (holds ExportSection es) = Unit {0}
+IsSectionWithinLimits (holds StartSection f) = Unit {0}
+IsSectionWithinLimits (holds ElementSection es) = Unit {0}
+IsSectionWithinLimits (holds DataCountSection n) = Unit {0}
+IsSectionWithinLimits (holds CodeSection bs) = AllByRecursion HasFew bs
+IsSectionWithinLimits (holds DataSection ds) = Unit {0}
 
 -- The number of items in the section. A custom section is one item; the start function and the
 -- data count are no items.
@@ -126,6 +126,6 @@ ReadsAll view parse at (Ok x) = parse at ≡ Some (view x)
 ReadsAll view parse at (Err e) = (parse at ≡ None) × IsPlaceIn at e.place
 
 -- The bytes encode content of this kind, which is within the limits; or the error has its reason.
-abbrev pub TakesHeld : (kind : Kind) → {X : Type 0} → (X → Content kind) → Input → Result X Error → Type 0
-TakesHeld kind view at (Ok v) = ((content kind).parse at ≡ Some (view v)) × IsSmall (holds kind (view v))
-TakesHeld kind view at (Err e) = HasReason (content_reasons kind at) e
+abbrev pub DecodesContent : (kind : Kind) → {X : Type 0} → (X → Content kind) → Input → Result X Error → Type 0
+DecodesContent kind view at (Ok v) = ((content kind).parse at ≡ Some (view v)) × IsSectionWithinLimits (holds kind (view v))
+DecodesContent kind view at (Err e) = HasReason (content_reasons kind at) e

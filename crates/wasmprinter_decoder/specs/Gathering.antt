@@ -15,7 +15,7 @@ use Rattle.wasmprinter_bytes.specs.Reads.{IsPlaceIn}
 use Rattle.wasmprinter_bytes.specs.declared.library_error.Error.{Error}
 use Rattle.wasmprinter_bytes.specs.Reasons.{Reasons, HasReason}
 use Rattle.wasmprinter_decoder.specs.Refusals.{HasManyLocals, HasEmptyInit, BeginsSection, KeepsSome, FirstIsOver, FirstIsEmpty}
-use Rattle.wasmprinter_decoder.specs.Contents.{IsSmall}
+use Rattle.wasmprinter_decoder.specs.Contents.{IsSectionWithinLimits}
 
 -- The contents of the sections read so far, the rank of the last one, and the kind before a custom section that
 -- follows them.
@@ -138,7 +138,7 @@ pub record HoldsSections (at : Input) (g : Gathered) : Type 0 where
   pub sections : List Section
   pub read : sections_at at ≡ Some sections
   pub rise : are_above 0 sections ≡ true
-  pub small : AllByRecursion IsSmall sections
+  pub small : AllByRecursion IsSectionWithinLimits sections
   pub held : IsHeld g sections
 
 -- The number of items in all sections, custom sections included.

@@ -11,7 +11,7 @@ use Rattle.wasmprinter_bytes.specs.declared.library_error.Error.TheVariants.{Mal
 use Rattle.wasmprinter_bytes.specs.Reasons.{Reasons, HasReason}
 use Rattle.wasmprinter_decoder.specs.declared.sections.Section.{Section}
 use Rattle.wasmprinter_decoder.specs.declared.sections.Section.TheVariants as s
-use Rattle.wasmprinter_decoder.specs.Contents.{HasOver, HasEmpty, HasCount, IsSmall, item_count, content_reasons}
+use Rattle.wasmprinter_decoder.specs.Contents.{HasOver, HasEmpty, HasCount, IsSectionWithinLimits, item_count, content_reasons}
 use Rattle.wasmprinter_decoder.specs.Refusals.{HasManyLocals, HasEmptyInit, BeginsSection, BeginsItems}
 
 -- The section as a value of the definitions.
@@ -35,7 +35,7 @@ section_view (s.Data ds) = holds DataSection ds.items
 -- place.
 abbrev pub TakesContent : ℕ → Option Kind → Input → Result Section Error → Type 0
 TakesContent place (Some kind) at (Ok s) =
-    (((content kind).parse at >>= λ x. Some (holds kind x)) ≡ Some (section_view s)) × IsSmall (section_view s)
+    (((content kind).parse at >>= λ x. Some (holds kind x)) ≡ Some (section_view s)) × IsSectionWithinLimits (section_view s)
 TakesContent place (Some kind) at (Err e) = HasReason (content_reasons kind at) e
 TakesContent place None at (Ok s) = ⊥
 TakesContent place None at (Err e) = e ≡ AtPlace place
@@ -55,5 +55,5 @@ section_reasons at = record {
 
 -- On success a section within the limits was read. An error has a true reason.
 abbrev pub TakesSection : Input → Result Section Error → Input → Type 0
-TakesSection old (Ok s) new = (section.parse old ≡ Some (section_view s, new)) × IsSmall (section_view s)
+TakesSection old (Ok s) new = (section.parse old ≡ Some (section_view s, new)) × IsSectionWithinLimits (section_view s)
 TakesSection old (Err e) new = HasReason (section_reasons old) e

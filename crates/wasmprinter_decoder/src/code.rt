@@ -9,7 +9,7 @@ ghost use Rattle.wasmprinter_bytes.specs.Reads.{end_of};
 ghost use Rattle.wasmprinter_ops.specs.ValTypes.{val_type_view};
 ghost use Rattle.wasmprinter_spec.specs.Sections.{CodeSection};
 ghost use Rattle.wasmprinter_decoder.specs.Bodies.{TakesBody, TakesEntry, TakesBodies};
-ghost use Rattle.wasmprinter_decoder.specs.Contents.{TakesHeld};
+ghost use Rattle.wasmprinter_decoder.specs.Contents.{DecodesContent};
 
 use crate::byte_checks::expect_end;
 use std::alloc::Global;
@@ -235,7 +235,7 @@ fn read_bodies<'a>(alloc: Global, cursor: &mut Cursor<'a>) -> Result<Vec<Body<'a
 ///   place of the first such body.
 /// - `Memory` if an allocation fails.
 pub fn read_code<'a>(alloc: Global, cursor: &mut Cursor<'a>) -> Result<Vec<Body<'a>>, Error>
-    ensures { TakesHeld CodeSection (λ v. v.items) cursor.old result }
+    ensures { DecodesContent CodeSection (λ v. v.items) cursor.old result }
 {
     let bodies = read_bodies(alloc, cursor)?;
     expect_end(cursor)?;

@@ -6,7 +6,7 @@ ghost use Rattle.wasmprinter_spec.specs.Sections.{DataSection};
 ghost use Rattle.wasmprinter_bytes.specs.Reads.{Decodes};
 ghost use Rattle.wasmprinter_bytes.specs.Lists.{Takes, reader};
 ghost use Rattle.wasmprinter_decoder.specs.Growing.{DataModeGrows, DataGrows};
-ghost use Rattle.wasmprinter_decoder.specs.Contents.{TakesHeld, ReadsAll};
+ghost use Rattle.wasmprinter_decoder.specs.Contents.{DecodesContent, ReadsAll};
 ghost use Rattle.wasmprinter_decoder.specs.Segments.{data_mode_view};
 
 use crate::byte_checks::expect_end;
@@ -136,7 +136,7 @@ impl<'a> Data<'a> {
 ///   [`Error::Malformed`](wasmprinter_bytes::Error::Malformed) describes it.
 /// - `Memory` if an allocation fails.
 pub fn read_data<'a>(alloc: Global, cursor: &mut Cursor<'a>) -> Result<Vec<Data<'a>>, Error>
-    ensures { TakesHeld DataSection (λ v. v.items) cursor.old result }
+    ensures { DecodesContent DataSection (λ v. v.items) cursor.old result }
 {
     let segments = read_grown_list(alloc, cursor)?;
     expect_end(cursor)?;

@@ -7,7 +7,7 @@ ghost use Rattle.wasmprinter_bytes.specs.Reads.{Decodes};
 ghost use Rattle.wasmprinter_bytes.specs.Lists.{Takes, reader, CountsItems};
 ghost use Rattle.wasmprinter_decoder.specs.Growing.{ModeGrows, ItemsGrow, ElementGrows};
 ghost use Rattle.wasmprinter_ops.specs.ValTypes.{ref_view};
-ghost use Rattle.wasmprinter_decoder.specs.Contents.{TakesHeld};
+ghost use Rattle.wasmprinter_decoder.specs.Contents.{DecodesContent};
 ghost use Rattle.wasmprinter_decoder.specs.Segments.{element_mode_view, element_items_view, mode_by, items_by, names_table, omits_kind};
 
 use crate::byte_checks::{expect_end, read_only};
@@ -220,7 +220,7 @@ impl<'a> Element<'a> {
 ///   as [`Error::Malformed`](wasmprinter_bytes::Error::Malformed) describes it.
 /// - `Memory` if an allocation fails.
 pub fn read_elements<'a>(alloc: Global, cursor: &mut Cursor<'a>) -> Result<Vec<Element<'a>>, Error>
-    ensures { TakesHeld ElementSection (λ v. v.items) cursor.old result }
+    ensures { DecodesContent ElementSection (λ v. v.items) cursor.old result }
 {
     let elements = read_grown_list(alloc, cursor)?;
     expect_end(cursor)?;

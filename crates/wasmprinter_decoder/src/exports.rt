@@ -4,7 +4,7 @@ ghost use Rattle.wasmprinter_spec.specs.Grammar.{value_with_place};
 ghost use Rattle.wasmprinter_spec.specs.Binary.Exports.{export, extern_kind, extern_kind_of};
 ghost use Rattle.wasmprinter_spec.specs.Sections.{ExportSection};
 ghost use Rattle.wasmprinter_bytes.specs.Reads.{Decodes};
-ghost use Rattle.wasmprinter_decoder.specs.Contents.{TakesHeld};
+ghost use Rattle.wasmprinter_decoder.specs.Contents.{DecodesContent};
 ghost use Rattle.wasmprinter_decoder.specs.Externs.{kind_view};
 
 use crate::byte_checks::expect_end;
@@ -128,7 +128,7 @@ impl<'a> Export<'a> {
 ///   [`Error::Malformed`](wasmprinter_bytes::Error::Malformed) describes it.
 /// - `Memory` if an allocation fails.
 pub fn read_exports<'a>(alloc: Global, cursor: &mut Cursor<'a>) -> Result<Vec<Export<'a>>, Error>
-    ensures { TakesHeld ExportSection (λ v. v.items) cursor.old result }
+    ensures { DecodesContent ExportSection (λ v. v.items) cursor.old result }
 {
     let exports = read_list(alloc, cursor)?;
     expect_end(cursor)?;

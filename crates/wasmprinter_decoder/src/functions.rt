@@ -2,7 +2,7 @@
 ghost use Rattle.std.specs.Prelude.{◌≡◌, ◌≤◌};
 ghost use Rattle.wasmprinter_spec.specs.Sections.{FunctionSection};
 ghost use Rattle.wasmprinter_bytes.specs.Reads.{end_of};
-ghost use Rattle.wasmprinter_decoder.specs.Contents.{TakesIndices, TakesHeld};
+ghost use Rattle.wasmprinter_decoder.specs.Contents.{TakesIndices, DecodesContent};
 
 use crate::byte_checks::expect_end;
 use std::alloc::Global;
@@ -40,7 +40,7 @@ fn read_type_indices(alloc: Global, cursor: &mut Cursor) -> Result<Vec<u32>, Err
 /// - `TooManyFunctions` if there are more than 1,000,000.
 /// - `Memory` if an allocation fails.
 pub fn read_functions(alloc: Global, cursor: &mut Cursor) -> Result<Vec<u32>, Error>
-    ensures { TakesHeld FunctionSection (λ v. v.items) cursor.old result }
+    ensures { DecodesContent FunctionSection (λ v. v.items) cursor.old result }
 {
     let indices = read_type_indices(alloc, cursor)?;
     expect_end(cursor)?;

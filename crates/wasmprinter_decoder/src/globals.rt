@@ -3,7 +3,7 @@ ghost use Rattle.std.specs.Prelude.{◌≡◌};
 ghost use Rattle.wasmprinter_spec.specs.Grammar.{value_with_place};
 ghost use Rattle.wasmprinter_spec.specs.Binary.Globals.{global as global_grammar};
 ghost use Rattle.wasmprinter_spec.specs.Sections.{GlobalSection};
-ghost use Rattle.wasmprinter_decoder.specs.Contents.{TakesHeld};
+ghost use Rattle.wasmprinter_decoder.specs.Contents.{DecodesContent};
 ghost use Rattle.wasmprinter_decoder.specs.Externs.{global_type_view};
 ghost use Rattle.wasmprinter_decoder.specs.Growing.{GlobalGrows};
 
@@ -79,7 +79,7 @@ impl<'a> Global<'a> {
 ///   [`Error::Malformed`](wasmprinter_bytes::Error::Malformed) describes it.
 /// - `Memory` if an allocation fails.
 pub fn read_globals<'a>(alloc: Allocator, cursor: &mut Cursor<'a>) -> Result<Vec<Global<'a>>, Error>
-    ensures { TakesHeld GlobalSection (λ v. v.items) cursor.old result }
+    ensures { DecodesContent GlobalSection (λ v. v.items) cursor.old result }
 {
     let globals = read_grown_list(alloc, cursor)?;
     expect_end(cursor)?;

@@ -4,7 +4,7 @@ ghost use Rattle.wasmprinter_spec.specs.Grammar.{value_with_place};
 ghost use Rattle.wasmprinter_spec.specs.Binary.Imports.{extern_type as extern_type_grammar, import as import_grammar};
 ghost use Rattle.wasmprinter_spec.specs.Sections.{ImportSection};
 ghost use Rattle.wasmprinter_bytes.specs.Reads.{Decodes};
-ghost use Rattle.wasmprinter_decoder.specs.Contents.{TakesHeld};
+ghost use Rattle.wasmprinter_decoder.specs.Contents.{DecodesContent};
 ghost use Rattle.wasmprinter_decoder.specs.Externs.{extern_view, HasPage, kind_view, kind_of_type};
 
 use crate::byte_checks::expect_end;
@@ -149,7 +149,7 @@ impl<'a> Import<'a> {
 ///   [`Error::Malformed`](wasmprinter_bytes::Error::Malformed) describes it.
 /// - `Memory` if an allocation fails.
 pub fn read_imports<'a>(alloc: Global, cursor: &mut Cursor<'a>) -> Result<Vec<Import<'a>>, Error>
-    ensures { TakesHeld ImportSection (λ v. v.items) cursor.old result }
+    ensures { DecodesContent ImportSection (λ v. v.items) cursor.old result }
 {
     let imports = read_list(alloc, cursor)?;
     expect_end(cursor)?;

@@ -4,7 +4,7 @@ ghost use Rattle.wasmprinter_spec.specs.Grammar.{value_with_place};
 ghost use Rattle.wasmprinter_spec.specs.Binary.Memories.{page as page_grammar, memory_type as memory_type_grammar};
 ghost use Rattle.wasmprinter_spec.specs.Sections.{MemorySection};
 ghost use Rattle.wasmprinter_bytes.specs.Reads.{Decodes};
-ghost use Rattle.wasmprinter_decoder.specs.Contents.{TakesHeld};
+ghost use Rattle.wasmprinter_decoder.specs.Contents.{DecodesContent};
 ghost use Rattle.wasmprinter_decoder.specs.Externs.{memory_type_view, IsPage};
 
 use crate::byte_checks::expect_end;
@@ -131,7 +131,7 @@ impl Memory {
 ///   [`Error::Malformed`](wasmprinter_bytes::Error::Malformed) describes it.
 /// - `Memory` if an allocation fails.
 pub fn read_memories(alloc: Global, cursor: &mut Cursor) -> Result<Vec<Memory>, Error>
-    ensures { TakesHeld MemorySection (λ v. v.items) cursor.old result }
+    ensures { DecodesContent MemorySection (λ v. v.items) cursor.old result }
 {
     let memories = read_list(alloc, cursor)?;
     expect_end(cursor)?;

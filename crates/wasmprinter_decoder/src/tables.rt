@@ -5,7 +5,7 @@ ghost use Rattle.wasmprinter_spec.specs.Binary.Tables.{table_by, table as table_
 ghost use Rattle.wasmprinter_spec.specs.Sections.{TableSection};
 ghost use Rattle.wasmprinter_bytes.specs.Lists.{Takes, reader};
 ghost use Rattle.wasmprinter_decoder.specs.Growing.{TableGrows};
-ghost use Rattle.wasmprinter_decoder.specs.Contents.{TakesHeld};
+ghost use Rattle.wasmprinter_decoder.specs.Contents.{DecodesContent};
 ghost use Rattle.wasmprinter_decoder.specs.Tables.{FindsEmpty};
 ghost use Rattle.wasmprinter_decoder.specs.Externs.{table_type_view};
 ghost use Rattle.wasmprinter_decoder.specs.Segments.{init_view};
@@ -134,7 +134,7 @@ fn empty_table(tables: &[Table]) -> Option<u64>
 /// - `EmptyTableInit` if the initialiser of a table has no operators, with the place of the first such table.
 /// - `Memory` if an allocation fails.
 pub fn read_tables<'a>(alloc: Global, cursor: &mut Cursor<'a>) -> Result<Vec<Table<'a>>, Error>
-    ensures { TakesHeld TableSection (λ v. v.items) cursor.old result }
+    ensures { DecodesContent TableSection (λ v. v.items) cursor.old result }
 {
     let tables = read_grown_list(alloc, cursor)?;
     expect_end(cursor)?;

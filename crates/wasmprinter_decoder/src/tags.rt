@@ -4,7 +4,7 @@ ghost use Rattle.wasmprinter_spec.specs.Grammar.{value_with_place};
 ghost use Rattle.wasmprinter_spec.specs.Binary.Tags.{tag as tag_grammar};
 ghost use Rattle.wasmprinter_spec.specs.Sections.{TagSection};
 ghost use Rattle.wasmprinter_bytes.specs.Reads.{Decodes};
-ghost use Rattle.wasmprinter_decoder.specs.Contents.{TakesHeld};
+ghost use Rattle.wasmprinter_decoder.specs.Contents.{DecodesContent};
 
 use crate::byte_checks::{expect_end, read_only};
 use std::alloc::Global;
@@ -74,7 +74,7 @@ impl Tag {
 ///   [`Error::Malformed`](wasmprinter_bytes::Error::Malformed) describes it.
 /// - `Memory` if an allocation fails.
 pub fn read_tags(alloc: Global, cursor: &mut Cursor) -> Result<Vec<Tag>, Error>
-    ensures { TakesHeld TagSection (λ v. v.items) cursor.old result }
+    ensures { DecodesContent TagSection (λ v. v.items) cursor.old result }
 {
     let tags = read_list(alloc, cursor)?;
     expect_end(cursor)?;

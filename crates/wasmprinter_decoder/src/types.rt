@@ -5,7 +5,7 @@ ghost use Rattle.wasmprinter_spec.specs.Types.{all_types, signature_at, fields_a
 ghost use Rattle.wasmprinter_spec.specs.Binary.Types.{group as group_grammar};
 ghost use Rattle.wasmprinter_spec.specs.Module.{groups_of};
 ghost use Rattle.wasmprinter_spec.specs.Sections.{TypeSection};
-ghost use Rattle.wasmprinter_decoder.specs.Contents.{TakesHeld};
+ghost use Rattle.wasmprinter_decoder.specs.Contents.{DecodesContent};
 
 use crate::byte_checks::expect_end;
 use std::alloc::{AllocError, Global};
@@ -156,7 +156,7 @@ impl<'a> Types<'a> {
     ///   [`Error::Malformed`](wasmprinter_bytes::Error::Malformed) describes it.
     /// - `Memory` if an allocation fails.
     pub fn read(alloc: Global, cursor: &mut Cursor<'a>) -> Result<Self, Error>
-        ensures { TakesHeld TypeSection (λ t. t) cursor.old result }
+        ensures { DecodesContent TypeSection (λ t. t) cursor.old result }
     {
         let groups = read_list(alloc, cursor)?;
         expect_end(cursor)?;

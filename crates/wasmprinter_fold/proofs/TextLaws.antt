@@ -12,7 +12,7 @@ use Rattle.wasmprinter_spec.specs.Colored.{colored_bytes}
 use Rattle.wasmprinter_spec.specs.Meaning.{Run}
 use Rattle.wasmprinter_spec.specs.Layout.Folded.{text_in_color}
 use Rattle.wasmprinter_spec.proofs.Texts.{alike_texts, alike_colored}
-use Rattle.wasmprinter_print.specs.Made.{Made, Through}
+use Rattle.wasmprinter_print.specs.MadeCalls.{MadeCalls, Through}
 use Rattle.wasmprinter_print.specs.Effects.{State, state, Effect, EffectEnds, HasEffect}
 use Rattle.wasmprinter_print.specs.EffectLaws.{effect_end}
 use Rattle.wasmprinter_print.specs.declared.halt.Halt.{Halt}
@@ -170,7 +170,7 @@ run_adds s [] t r = subst (λ (u : View). Adds s [] u) r (adds_none s)
 run_adds s (c ∷ cs) t r = adds_first s t c cs r.1.step.1 (run_adds (view_after s c) cs t (subst (λ (u : View). Run texts_meaning u cs t) r.1.step.0 r.2))
 
 -- The calls of a layout that were all made add their text.
-pub made_adds : (s t : View) (layout : List Call) → Made texts_meaning s t Through layout → Adds s layout t
+pub made_adds : (s t : View) (layout : List Call) → MadeCalls texts_meaning s t Through layout → Adds s layout t
 made_adds s t layout m =
     let a = run_adds s m.made.calls t m.made.run in
     let same = colored_alike s.color m.made.calls layout m.made.alike in

@@ -14,7 +14,7 @@ use Rattle.wasmprinter_spec.specs.Layout.Groups.{close, has_break, group_at}
 use Rattle.wasmprinter_spec.specs.Layout.Identifiers.{leading_id_and_name_pieces}
 use Rattle.wasmprinter_spec.specs.Layout.Customs.{Part, Shown, Laid, before_laid, laid_parts}
 use Rattle.wasmprinter_print.specs.Change.{Change, change}
-use Rattle.wasmprinter_print.specs.Made.{Made, when_out_of_memory}
+use Rattle.wasmprinter_print.specs.MadeCalls.{MadeCalls, when_out_of_memory}
 use Rattle.wasmprinter_print.specs.Effects.{state, EffectEnds, HasEffect, of_parts}
 use Rattle.wasmprinter_print.specs.declared.halt.Halt.{Halt}
 use Rattle.wasmprinter_print.specs.declared.halt.Halt.TheVariants as halt
@@ -56,7 +56,7 @@ module _ {P : Type 0} (printer : Change P) (o : Options) (b c : Bool) (ps : List
   ended_laid None v = record { made = record { made = v.0 }; refused = v.2 }
   ended_laid (Some (halt.Printer e)) v = record { made = record { made = v }; refused = tt }
   ended_laid (Some halt.Memory) v = record {
-    made = subst (λ (f : Bool). Made printer.meaning printer.old printer.new (when_out_of_memory f) (all_calls o (laid_parts ps).pieces)) (sym v.1) (record { made = v.0 });
+    made = subst (λ (f : Bool). MadeCalls printer.meaning printer.old printer.new (when_out_of_memory f) (all_calls o (laid_parts ps).pieces)) (sym v.1) (record { made = v.0 });
     refused = tt;
   }
   ended_laid (Some (halt.Refused id)) v = record { made = record { made = v.0 }; refused = v.1 }
@@ -76,7 +76,7 @@ pub stops_first : {P T : Type 0} (m : Meaning P) (o : Options) (a : P) (r : Resu
 stops_first m o a (Ok x) l folds s f = absurd f
 stops_first {P} {T} m o a (Err y) l folds s f =
     subst (λ (z : Error). PrintsLaid {T = T} (change m a a) o (Err z) l) (sym (f ∙ s)) (record {
-      made = subst (λ (b : Bool). Made m a a (when_out_of_memory b) (all_calls o l.pieces)) (sym folds)
+      made = subst (λ (b : Bool). MadeCalls m a a (when_out_of_memory b) (all_calls o l.pieces)) (sym folds)
           (record { made = record { calls = []; rest = atoms (all_calls o l.pieces); run = refl; alike = refl } });
       refused = tt;
     })

@@ -6,7 +6,7 @@ use Rattle.wasmprinter_spec.specs.Options.{Options}
 use Rattle.wasmprinter_spec.specs.Piece.{all_calls}
 use Rattle.wasmprinter_spec.specs.Layout.Customs.{Laid}
 use Rattle.wasmprinter_print.specs.Change.{Change}
-use Rattle.wasmprinter_print.specs.Made.{Made, Ending, Through, AtCall, Never, when_out_of_memory}
+use Rattle.wasmprinter_print.specs.MadeCalls.{MadeCalls, Ending, Through, AtCall, Never, when_out_of_memory}
 
 -- How the calls end that were made before this error. A refusal comes after all calls before it, and the printer's
 -- error at the call that failed. Memory can run out only if operators are folded. No other error is returned.
@@ -38,5 +38,5 @@ AgreesWithRefusal (Err e) refused = ErrorAgreesWithRefusal e refused
 -- failed, whose error is then returned, or if an allocation failed while operators were folded. A refusal (an unknown
 -- subsection of `dylink.0`), if there is one, is returned after all calls. Nothing else is returned as an error.
 pub record PrintsLaid {P T : Type 0} (printer : Change P) (o : Options) (r : Result T Error) (l : Laid) : Type 0 where
-  pub made : Made printer.meaning printer.old printer.new (ending_by o.folds r) (all_calls o l.pieces)
+  pub made : MadeCalls printer.meaning printer.old printer.new (ending_by o.folds r) (all_calls o l.pieces)
   pub refused : AgreesWithRefusal r l.refused

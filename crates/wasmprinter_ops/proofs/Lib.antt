@@ -2,8 +2,8 @@ pub mod BlockTypes
 pub mod Dense
 pub mod Entries
 pub mod FirstBytes
-pub mod Made
 pub mod MadeAgain
+pub mod ReadValues
 pub mod Pairs
 pub mod Prefixed
 pub mod Seen

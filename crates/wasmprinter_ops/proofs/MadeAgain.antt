@@ -8,7 +8,7 @@ use Rattle.wasmprinter_ops.specs.declared.val_types.ValType.TheVariants as t
 use Rattle.wasmprinter_ops.specs.Blocks.{block_type_view, catch_view, catch_of_view}
 use Rattle.wasmprinter_ops.specs.Immediates.{immediates_view, HasCastFlags}
 use Rattle.wasmprinter_ops.specs.Operands.{source_null, target_null}
-use Rattle.wasmprinter_ops.specs.Made.{block_type_of_view, cast_flags, immediates_of_view}
+use Rattle.wasmprinter_ops.specs.OfViews.{block_type_of_view, cast_flags, immediates_of_view}
 use Rattle.wasmprinter_ops.specs.declared.blocks.BlockType.{BlockType}
 use Rattle.wasmprinter_ops.specs.declared.blocks.BlockType.TheVariants as block_types
 use Rattle.wasmprinter_ops.specs.declared.blocks.Catch.{Catch}

@@ -3,7 +3,7 @@ pub mod Arities
 pub mod Blocks
 pub mod ByNumber
 pub mod Immediates
-pub mod Made
+pub mod OfViews
 pub mod Nesting
 pub mod Operands
 pub mod Operators

@@ -126,7 +126,7 @@ impl PartialEq for Operator<'_> {
     ghost use Rattle.wasmprinter_ops.specs.contracts.opcode.OpcodePartialEq.TheImpl.Laws.{laws-law as opcodes_compare};
     ghost use Rattle.wasmprinter_ops.specs.contracts.operator.ImmediatesPartialEq.TheImpl.Laws.{laws-law as immediates_compare};
     ghost use Rattle.std.specs.Ordering.{eq_of_both, on};
-    ghost use Rattle.wasmprinter_ops.specs.Made.{immediates_of_view};
+    ghost use Rattle.wasmprinter_ops.specs.OfViews.{immediates_of_view};
 
     ghost eq = { eq_of_both (on (λ o. o.opcode) ⟦<Opcode as PartialEq>⟧.eq)
         (on (λ o. immediates_of_view o.immediates) ⟦<Immediates<'static> as PartialEq>⟧.eq) };

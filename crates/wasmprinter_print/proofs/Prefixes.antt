@@ -4,7 +4,7 @@ use Rattle.std.specs.declared.io.Error.{Error as IoError}
 use Rattle.wasmprinter_spec.specs.Call.{Call, call_text, text_of}
 use Rattle.wasmprinter_spec.specs.Meaning.{Meaning}
 use Rattle.wasmprinter_spec.proofs.Texts.{text_of-append, prefix_text}
-use Rattle.wasmprinter_print.specs.Made.{Broken}
+use Rattle.wasmprinter_print.specs.MadeCalls.{Broken}
 
 -- If a call failed, the text of the layout is the text of the calls before it, then the text of that call, then
 -- more text.

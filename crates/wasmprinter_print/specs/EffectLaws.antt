@@ -8,7 +8,7 @@ use Rattle.wasmprinter_spec.specs.Options.{Options}
 use Rattle.wasmprinter_spec.specs.Piece.{Piece, calls, all_calls}
 use Rattle.wasmprinter_spec.specs.Layout.Groups.{breaks, has_break, close}
 use Rattle.wasmprinter_spec.specs.Layout.Customs.{Part, Shown, Stops, Laid, laid_parts}
-use Rattle.wasmprinter_print.specs.Made.{Whole, Through, AtCall, Stopped}
+use Rattle.wasmprinter_print.specs.MadeCalls.{Whole, Through, AtCall, Stopped}
 use Rattle.wasmprinter_print.specs.MadeLaws.{atoms-text, then_calls, broken_longer, interrupted_longer, alike_calls}
 use Rattle.wasmprinter_print.specs.Effects.{State, state, Effect, both, then_by, Opened, LeftGroup, EffectEnds, HasEffectFrom, HasEffect, of_calls, of_pieces, of_laid, of_parts}
 use Rattle.wasmprinter_print.specs.declared.halt.Halt.{Halt}

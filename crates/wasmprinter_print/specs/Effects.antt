@@ -6,7 +6,7 @@ use Rattle.wasmprinter_spec.specs.Options.{Options}
 use Rattle.wasmprinter_spec.specs.Piece.{Piece, all_calls}
 use Rattle.wasmprinter_spec.specs.Layout.Groups.{has_break}
 use Rattle.wasmprinter_spec.specs.Layout.Customs.{Part, Laid, laid_parts}
-use Rattle.wasmprinter_print.specs.Made.{Whole, Broken, Interrupted}
+use Rattle.wasmprinter_print.specs.MadeCalls.{Whole, Broken, Interrupted}
 use Rattle.wasmprinter_print.specs.declared.halt.Halt.{Halt}
 use Rattle.wasmprinter_print.specs.declared.halt.Halt.TheVariants.{Printer, Memory, Refused}
 

@@ -4,7 +4,7 @@ pub mod EffectLaws
 pub mod Effects
 pub mod Errors
 pub mod Indents
-pub mod Made
+pub mod MadeCalls
 pub mod MadeLaws
 pub mod OutputLaws
 pub mod Styles

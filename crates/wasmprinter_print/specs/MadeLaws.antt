@@ -1,11 +1,11 @@
--- Consequences of `Made` and `StillToMake` for any printer: how the parts of a layout combine.
+-- Consequences of `MadeCalls` and `StillToMake` for any printer: how the parts of a layout combine.
 use Rattle.std.specs.Prelude.{◌≡◌, ℕ, List, [], ◌∷◌, ◌++◌, Result, Ok, Err, IsErrAnd}
 use Rattle.std.proofs.Common.{refl, sym, ap, ap₂, ◌∙◌, subst, append_assoc, append-nil}
 use Rattle.std.proofs.lemmas.List.{map-append}
 use Rattle.std.specs.declared.io.Error.{Error as IoError}
 use Rattle.wasmprinter_spec.specs.Call.{Call, Text, calls_of_bytes, atoms}
 use Rattle.wasmprinter_spec.specs.Meaning.{Meaning, Run, Succeeded, Failed}
-use Rattle.wasmprinter_print.specs.Made.{Does, Made, StillToMake, Calls, Ending, Through, AtCall, Stopped, Never, Whole, Broken, Interrupted, ending}
+use Rattle.wasmprinter_print.specs.MadeCalls.{Does, MadeCalls, StillToMake, Calls, Ending, Through, AtCall, Stopped, Never, Whole, Broken, Interrupted, ending}
 
 -- The atoms of two concatenated lists of calls are the atoms of the first followed by those of the second.
 pub atoms-append : (k l : List Call) → atoms (k ++ l) ≡ atoms k ++ atoms l
@@ -57,9 +57,9 @@ then_calls m a s t Stopped l k w v = record {
 }
 then_calls m a s t Never l k w v = v
 
--- `then_calls`, of `Made`.
+-- `then_calls`, of `MadeCalls`.
 pub then : {P : Type 0} (m : Meaning P) {a s t : P} {r : Ending} {l k : List Call} →
-    Made m a s Through l → Made m s t r k → Made m a t r (l ++ k)
+    MadeCalls m a s Through l → MadeCalls m s t r k → MadeCalls m a t r (l ++ k)
 then m {a} {s} {t} {r} {l} {k} x y = record { made = then_calls m a s t r l k x.made y.made }
 
 -- Calls that stopped within `l` stopped within `l ++ k`.
@@ -84,19 +84,19 @@ interrupted_longer m a t l k v = record {
 
 -- If a call of `l` failed and the function returned its error, then the function has made a prefix of `l ++ k`.
 pub ends : {P U : Type 0} (m : Meaning P) {a t : P} (r : Result U IoError) {e : IoError} {l : List Call} (k : List Call) →
-    IsErrAnd r (λ y. y ≡ e) → Made m a t (AtCall e) l → Made m a t (ending r) (l ++ k)
+    IsErrAnd r (λ y. y ≡ e) → MadeCalls m a t (AtCall e) l → MadeCalls m a t (ending r) (l ++ k)
 ends m (Ok x) k f v = absurd f
 ends m {a} {t} (Err y) {e} {l} k f v =
     record { made = broken_longer m a t y l k (subst (λ z. Broken m a t z l) (sym f) v.made) }
 
 -- A call that succeeded is a layout of one call.
-pub called : {P : Type 0} (m : Meaning P) {a t : P} {c : Call} → Succeeded m a c t → Made m a t Through (c ∷ [])
+pub called : {P : Type 0} (m : Meaning P) {a t : P} {c : Call} → Succeeded m a c t → MadeCalls m a t Through (c ∷ [])
 called m {a} {t} {c} s =
     record { made = record { calls = c ∷ []; run = (t, s, refl); alike = refl } }
 
 -- A call that failed is a failed layout of one call.
 pub call_fails : {P U : Type 0} (m : Meaning P) {a t : P} (r : Result U IoError) (e : IoError) {c : Call} →
-    IsErrAnd r (λ y. y ≡ e) → Failed m a c e t → Made m a t (ending r) (c ∷ [])
+    IsErrAnd r (λ y. y ≡ e) → Failed m a c e t → MadeCalls m a t (ending r) (c ∷ [])
 call_fails m (Ok x) e f v = absurd f
 call_fails m {a} {t} (Err y) e {c} f v = record {
   made = record {
@@ -111,7 +111,7 @@ call_fails m {a} {t} (Err y) e {c} f v = record {
 }
 
 -- A call with its result is a layout of one call.
-pub does : {P : Type 0} (m : Meaning P) {a t : P} (r : Result (Unit {0}) IoError) (c : Call) → Does m a c t r → Made m a t (ending r) (c ∷ [])
+pub does : {P : Type 0} (m : Meaning P) {a t : P} (r : Result (Unit {0}) IoError) (c : Call) → Does m a c t r → MadeCalls m a t (ending r) (c ∷ [])
 does m (Ok x) c v = called m v
 does m (Err e) c v = call_fails {U = Unit {0}} m (Err e) e refl v
 
@@ -130,18 +130,18 @@ alike_calls m a t (AtCall x) l k e v = record {
 alike_calls m a t Stopped l k e v = record { calls = v.calls; rest = v.rest; run = v.run; alike = v.alike ∙ e }
 alike_calls m a t Never l k e v = v
 
--- `alike_calls`, of `Made`.
+-- `alike_calls`, of `MadeCalls`.
 pub alike : {P : Type 0} (m : Meaning P) {a t : P} {r : Ending} {l : List Call} (k : List Call) →
-    atoms l ≡ atoms k → Made m a t r l → Made m a t r k
+    atoms l ≡ atoms k → MadeCalls m a t r l → MadeCalls m a t r k
 alike m {a} {t} {r} {l} k e v = record { made = alike_calls m a t r l k e v.made }
 
 -- If no call of `whole` is left, then all of it was made.
-pub rest_none : {P : Type 0} (m : Meaning P) {a t : P} (whole : List Call) → StillToMake m a t whole [] → Made m a t Through whole
+pub rest_none : {P : Type 0} (m : Meaning P) {a t : P} (whole : List Call) → StillToMake m a t whole [] → MadeCalls m a t Through whole
 rest_none m whole o = alike m whole (sym (append-nil (atoms o.layout)) ∙ o.alike) o.made
 
 -- If the next calls that are left were made, then only the calls after them are left.
 pub makes_next : {P : Type 0} (m : Meaning P) {a s t : P} {whole l k : List Call} →
-    StillToMake m a s whole (l ++ k) → Made m s t Through l → StillToMake m a t whole k
+    StillToMake m a s whole (l ++ k) → MadeCalls m s t Through l → StillToMake m a t whole k
 makes_next m {l = l} {k} o v = record {
   layout = o.layout ++ l;
   made = then m o.made v;
@@ -157,7 +157,7 @@ rest_alike m k e o = record { layout = o.layout; made = o.made; alike = ap (λ x
 
 -- If the calls that are left were made with some ending, then `whole` was made with that ending.
 pub makes_rest : {P : Type 0} (m : Meaning P) {a s t : P} {r : Ending} {whole k : List Call} →
-    StillToMake m a s whole k → Made m s t r k → Made m a t r whole
+    StillToMake m a s whole k → MadeCalls m s t r k → MadeCalls m a t r whole
 makes_rest m {whole = whole} {k} o v = alike m whole (atoms-append o.layout k ∙ o.alike) (then m o.made v)
 
 -- A text in two calls has the same atoms as the same text in one call.

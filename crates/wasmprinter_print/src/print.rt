@@ -2,7 +2,7 @@
 ghost use Rattle.std.specs.Prelude.{◌≡◌, Bool, [], ◌∷◌};
 ghost use Rattle.wasmprinter_spec.specs.Call.{Text, Newline, Line, Start, Literal, Name, Keyword, TypeName, Comment, Reset};
 ghost use Rattle.wasmprinter_spec.specs.Meaning.{Meaning, Succeeded};
-ghost use Rattle.wasmprinter_print.specs.Made.{Does, Claims, Made, ending};
+ghost use Rattle.wasmprinter_print.specs.MadeCalls.{Does, Claims, MadeCalls, ending};
 
 use std::io;
 
@@ -31,7 +31,7 @@ pub trait Print {
     /// # Errors
     /// - The printer's error. Printing stops and returns it.
     fn write_each_char(&mut self, s: &str) -> io::Result<()>
-        ensures { Made meaning self.old self.new (ending result) (Text s.now ∷ []) }
+        ensures { MadeCalls meaning self.old self.new (ending result) (Text s.now ∷ []) }
     {
         for c in s.chars() {
             self.write_str(c.encode_utf8(&mut [0; 4]))?;

@@ -3,7 +3,7 @@ pub mod Counting
 pub mod Digits
 pub mod Formats
 pub mod FractionDigits
-pub mod Made
+pub mod SynthesizedIdentifiers
 pub mod Plain
 pub mod Runs
 pub mod Tables

@@ -5,7 +5,7 @@ ghost use Rattle.wasmprinter_spec.specs.Float.{single, double};
 ghost use Rattle.wasmprinter_spec.specs.FloatText.{float_calls};
 ghost use Rattle.wasmprinter_spec.specs.Piece.{calls_in_style};
 ghost use Rattle.wasmprinter_spec.specs.Quoted.{quoted_text, quoted_bytes};
-ghost use Rattle.wasmprinter_print.specs.Made.{Made, outcome};
+ghost use Rattle.wasmprinter_print.specs.MadeCalls.{MadeCalls, outcome};
 ghost use Rattle.wasmprinter_print.specs.Effects.{HasEffect, state, of_calls};
 ghost use Rattle.wasmprinter_spec.specs.Options.{defaults};
 
@@ -99,7 +99,7 @@ fn write_to_printer<P: Print, V: Value>(out: &mut Printer<'_, '_, P, Brand>, val
 ///
 /// - `Printer` with the error of the call on the printer that failed.
 pub fn write_value<P: Print, V: Value>(p: &mut P, value: &V) -> Result<(), Error>
-    ensures { Made P.meaning p.old p.new (outcome result) (V.calls value.now) }
+    ensures { MadeCalls P.meaning p.old p.new (outcome result) (V.calls value.now) }
 {
     let options = PrintOptions::new();
     let mut out: Printer<'_, '_, P, Brand> = Printer::new(p, &options);
@@ -124,7 +124,7 @@ pub fn write_value<P: Print, V: Value>(p: &mut P, value: &V) -> Result<(), Error
 ///
 /// - `Printer` with the error of the call on the printer that failed.
 pub fn write_quoted<P: Print>(p: &mut P, s: &str) -> Result<(), Error>
-    ensures { Made P.meaning p.old p.new (outcome result) (calls_in_style Literal (quoted_text (chars s.now))) }
+    ensures { MadeCalls P.meaning p.old p.new (outcome result) (calls_in_style Literal (quoted_text (chars s.now))) }
 {
     write_value(p, &Text { text: s })
 }
@@ -136,7 +136,7 @@ pub fn write_quoted<P: Print>(p: &mut P, s: &str) -> Result<(), Error>
 ///
 /// - `Printer` with the error of the call on the printer that failed.
 pub fn write_bytes<P: Print>(p: &mut P, bytes: &[u8]) -> Result<(), Error>
-    ensures { Made P.meaning p.old p.new (outcome result) (calls_in_style Literal (quoted_bytes bytes.now)) }
+    ensures { MadeCalls P.meaning p.old p.new (outcome result) (calls_in_style Literal (quoted_bytes bytes.now)) }
 {
     write_value(p, &Bytes { bytes })
 }
@@ -149,7 +149,7 @@ pub fn write_bytes<P: Print>(p: &mut P, bytes: &[u8]) -> Result<(), Error>
 ///
 /// - `Printer` with the error of the call on the printer that failed.
 pub fn write_f32<P: Print>(p: &mut P, bits: u32) -> Result<(), Error>
-    ensures { Made P.meaning p.old p.new (outcome result) (float_calls single bits) }
+    ensures { MadeCalls P.meaning p.old p.new (outcome result) (float_calls single bits) }
 {
     write_value(p, &Single { bits })
 }
@@ -160,7 +160,7 @@ pub fn write_f32<P: Print>(p: &mut P, bits: u32) -> Result<(), Error>
 ///
 /// - `Printer` with the error of the call on the printer that failed.
 pub fn write_f64<P: Print>(p: &mut P, bits: u64) -> Result<(), Error>
-    ensures { Made P.meaning p.old p.new (outcome result) (float_calls double bits) }
+    ensures { MadeCalls P.meaning p.old p.new (outcome result) (float_calls double bits) }
 {
     write_value(p, &Double { bits })
 }

@@ -6,7 +6,7 @@ use Rattle.wasmprinter_spec.specs.Call.{Call, Text, Newline, Line, Start, Claim,
 use Rattle.wasmprinter_spec.specs.Lines.{TextLine, lines_of}
 use Rattle.wasmprinter_spec.specs.Meaning.{Run}
 use Rattle.wasmprinter_spec.proofs.Texts.{text_of-append}
-use Rattle.wasmprinter_print.specs.Made.{Broken}
+use Rattle.wasmprinter_print.specs.MadeCalls.{Broken}
 use Rattle.wasmprinter_writers.specs.Tracked.{Tracked, without_lines, extend_last, with_line_if}
 use Rattle.wasmprinter_writers.specs.Tracking.{tracked_after, tracked_meaning, Tracks}
 use Rattle.wasmprinter_writers.proofs.LineLaws.{lines_of-text, lines_of-line}

@@ -51,7 +51,7 @@ impl LineTracker {
     ghost use Rattle.std.specs.Prelude.{◌≡◌, false, [], ◌∷◌, OnOk, OnErr, IfOk, IsOk};
     ghost use Rattle.std.specs.String.{string_bytes};
     ghost use Rattle.wasmprinter_spec.specs.Call.{Text};
-    ghost use Rattle.wasmprinter_print.specs.Made.{Made, ending};
+    ghost use Rattle.wasmprinter_print.specs.MadeCalls.{MadeCalls, ending};
     ghost use Rattle.wasmprinter_writers.specs.Tracked.{without_lines, with_text};
     ghost use Rattle.wasmprinter_writers.specs.Cuts.{lines_at_starts, AreLineStarts};
 
@@ -103,7 +103,7 @@ impl LineTracker {
     /// Appends a piece of text character by character. If an allocation fails, the characters before it have been
     /// appended.
     fn write_by_chars(&mut self, piece: &str) -> io::Result<()>
-        ensures { Made tracked_meaning self.old self.new (ending result) (Text piece.now ∷ []) }
+        ensures { MadeCalls tracked_meaning self.old self.new (ending result) (Text piece.now ∷ []) }
     {
         for c in piece.chars() {
             self.write_str(c.encode_utf8(&mut [0; 4]))?;

@@ -53,7 +53,7 @@ impl Texts {
     ghost use Rattle.wasmprinter_spec.specs.Call.{Text};
     ghost use Rattle.wasmprinter_spec.specs.Options.{defaults};
     ghost use Rattle.wasmprinter_spec.specs.Piece.{all_calls};
-    ghost use Rattle.wasmprinter_print.specs.Made.{Made, Through};
+    ghost use Rattle.wasmprinter_print.specs.MadeCalls.{MadeCalls, Through};
     ghost use Rattle.wasmprinter_flat.specs.Settings.{word_pieces_with_names};
     ghost use Rattle.wasmprinter_fold.specs.Shown.{shown_of_calls, shown_of_head, IsIn};
     ghost use Rattle.wasmprinter_fold.specs.Buffers.{GrowsText, with_text_begun, with_text, with_sequences};
@@ -128,7 +128,7 @@ impl Texts {
         requires { length labels.now.labels + 1 < 2 ^ 64 }
         ensures color { self.new.color ≡ self.old.color }
         ensures grows { GrowsText self.old.bytes self.new.bytes }
-        ensures made { OnOk result (Made texts_meaning self.old self.new Through
+        ensures made { OnOk result (MadeCalls texts_meaning self.old self.new Through
             (all_calls defaults (word_pieces_with_names S.signature_at setting.now labels.now operator.now))) }
     {
         let options = PrintOptions::new();

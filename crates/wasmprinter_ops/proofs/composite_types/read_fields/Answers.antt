@@ -1,7 +1,7 @@
 use Rattle.std.proofs.Common.{rules}
 use Rattle.wasmprinter_spec.specs.Binary.Types.{field}
 use Rattle.wasmprinter_ops.specs.Types.{field_view, field_of_view}
-use Rattle.wasmprinter_ops.proofs.Made.{reads_made}
+use Rattle.wasmprinter_ops.proofs.ReadValues.{reads_made}
 use Rattle.wasmprinter_ops.proofs.Seen.{field_seen}
 use Rattle.wasmprinter_ops.proofs.composite_types.read_fields.Goals as goal
 

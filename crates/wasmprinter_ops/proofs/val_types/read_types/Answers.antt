@@ -1,7 +1,7 @@
 use Rattle.std.proofs.Common.{rules}
 use Rattle.wasmprinter_spec.specs.Binary.ValTypes.{val_type}
 use Rattle.wasmprinter_ops.specs.ValTypes.{val_type_view, type_of_view}
-use Rattle.wasmprinter_ops.proofs.Made.{reads_made}
+use Rattle.wasmprinter_ops.proofs.ReadValues.{reads_made}
 use Rattle.wasmprinter_ops.proofs.Seen.{type_seen}
 use Rattle.wasmprinter_ops.proofs.val_types.read_types.Goals as goal
 

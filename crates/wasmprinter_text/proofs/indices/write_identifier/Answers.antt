@@ -1,6 +1,6 @@
 use Rattle.std.proofs.Common.{ap, ◌∙◌}
 use Rattle.wasmprinter_spec.specs.Quoted.{all_id_chars}
-use Rattle.wasmprinter_text.proofs.Made.{word-runs}
+use Rattle.wasmprinter_text.proofs.SynthesizedIdentifiers.{word-runs}
 use Rattle.wasmprinter_text.proofs.indices.write_identifier.Goals as goal
 
 pub returns-in-Synthesized : goal.returns-in-Synthesized

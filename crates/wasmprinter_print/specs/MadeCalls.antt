@@ -81,11 +81,11 @@ Calls m old new Never layout = ⊥
 -- `Calls` as a record, so that contracts and lemmas can refer to it by name. A function that returns a result has the
 -- ending `ending result` or `outcome result`. After `Ok`, it has made all calls of the layout, up to how text is split into
 -- calls. After an error, a call failed with this error, and the calls up to and including this one are a prefix.
-pub record Made {P : Type 0} (m : Meaning P) (old new : P) (end : Ending) (layout : List Call) : Type 0 where
+pub record MadeCalls {P : Type 0} (m : Meaning P) (old new : P) (end : Ending) (layout : List Call) : Type 0 where
   pub made : Calls m old new end layout
 
 -- The calls that were made so far, followed by those of `rest`, are the calls of `whole`.
 pub record StillToMake {P : Type 0} (m : Meaning P) (old new : P) (whole rest : List Call) : Type 0 where
   pub layout : List Call
-  pub made : Made m old new Through layout
+  pub made : MadeCalls m old new Through layout
   pub alike : atoms layout ++ atoms rest ≡ atoms whole
