@@ -56,10 +56,15 @@ impl<'a> Side<'a> {
 }
 
 /// Returns the lines up to the one at `index`, which is the last of them, or all lines if there are fewer.
+#[tactic(auto, using(std::proofs::lemmas::List::take_all))]
 fn up_to<'b, 'a>(lines: &'b [&'a str], index: usize) -> &'b [&'a str]
     ensures { result.now ≡ take (index + 1) lines.now }
 {
-    &lines[..lines.len().min(index.saturating_add(1))]
+    if index < lines.len() {
+        &lines[..index + 1]
+    } else {
+        lines
+    }
 }
 
 /// Returns the number of lines before the first that differs.

@@ -67,7 +67,13 @@ fn starts_field(line: &str) -> bool
 fn last_header<'a>(lines: &[&'a str]) -> Option<&'a str>
     ensures { result ≡ last_header lines.now }
 {
-    lines.iter().rev().find(|line| starts_field(line)).copied()
+    let mut header = None;
+    for line in lines {
+        if starts_field(line) {
+            header = Some(*line);
+        }
+    }
+    header
 }
 
 /// Returns the kind of a field, by the keyword that starts it.
