@@ -1,0 +1,46 @@
+-- The results of a run, and the lines and statuses of its failures.
+use Rattle.std.specs.Prelude.{◌≡◌, ◌≢◌, ◌↔◌, ◌⊎◌, ℕ, List, [], ◌∷◌, ◌++◌, Option, Some, None, codes, length}
+use Rattle.wasmprinter_bytes.specs.Messages.{error_text}
+use Rattle.wasmprinter_bytes.specs.declared.library_error.Error.TheVariants.{Memory}
+use Rattle.wasmprinter_spec.specs.Options.{defaults}
+use Rattle.wasmprinter.specs.TextOfFile.{Reading, IsTextOfFile, IsRefusedBy}
+use Rattle.example_compare.specs.declared.Comparison.{Comparison}
+use Rattle.example_compare.specs.declared.Comparison.TheVariants.{Equal}
+use Rattle.example_compare.specs.declared.failure.Failure.{Failure}
+use Rattle.example_compare.specs.declared.failure.Failure.TheVariants.{Usage, Refused}
+
+-- The exit status after a failure.
+abbrev pub status_of : Failure → ℕ
+status_of Usage = 2
+status_of failure = 1
+
+-- The line that reports a failure, or `None` if no contract specifies the text of its error.
+abbrev pub failure_line : Failure → Option (List ℕ)
+failure_line Usage = Some (codes "usage: example_compare FILE FILE")
+failure_line (Refused file error) = Some (codes "error: " ++ (file.now ++ (codes ": " ++ error_text error)))
+failure_line failure = None
+
+-- The comparison says that the modules are equal.
+abbrev pub IsEqual : Comparison → Type 0
+IsEqual comparison = comparison ≡ Equal
+
+-- The two words name files, and reading them may return modules with texts that are equal if and only if the comparison
+-- says so. `may_read` gives the possible results of reading each file.
+abbrev pub Compares : (List ℕ → Reading) → List (List ℕ) → Comparison → Type 0
+Compares may_read words comparison =
+    (left right x y : List ℕ) × (words ≡ left ∷ (right ∷ [])) × IsTextOfFile (may_read left) x × IsTextOfFile (may_read right) y
+    × (IsEqual comparison ↔ (x ≡ y))
+
+-- The failure is that of a file that has no text for its error.
+abbrev pub IsRefused : (List ℕ → Reading) → List ℕ → Failure → Type 0
+IsRefused may_read name (Refused file error) = (file.now ≡ name) × IsRefusedBy defaults (may_read name) error
+IsRefused may_read name failure = ⊥
+
+-- A run with these words has this failure: there are not exactly two words; or one of the files that they name has no
+-- text, or memory runs out.
+abbrev pub IsFailureOf : (List ℕ → Reading) → List (List ℕ) → Failure → Type 0
+IsFailureOf may_read words Usage = length words ≢ 2
+IsFailureOf may_read words (Refused file error) =
+    (left right : List ℕ) × (words ≡ left ∷ (right ∷ [])) × ((file.now ≡ left) ⊎ (file.now ≡ right))
+    × ((error ≡ Memory) ⊎ IsRefusedBy defaults (may_read file.now) error)
+IsFailureOf may_read words failure = ⊥

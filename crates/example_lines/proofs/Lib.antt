@@ -1,0 +1,2 @@
+-- Lemmas on the search of a line.
+pub mod Search

@@ -1,0 +1,2 @@
+-- Definitions that the contracts of the program cite.
+pub mod Outcome
