@@ -36,7 +36,7 @@ PAGES = ("CONTRIBUTING.md", "docs/ARCHITECTURE.md")
 MADE = {".git", "out", "target", "__pycache__"}
 
 # Code, definitions and proofs of the library and of the programs
-LISTED_ALONE = re.compile(r"crates/(wasmprinter(?!_samples/|_expecting/)\w*|printwasm)/(src|specs|proofs)/")
+LISTED_ALONE = re.compile(r"crates/(wasmprinter(?!_samples/|_expecting/)\w*|printwasm|wasm2text)/(src|specs|proofs)/")
 
 SUFFIXES = {"src": ".rt", "specs": ".antt", "proofs": ".antt"}
 

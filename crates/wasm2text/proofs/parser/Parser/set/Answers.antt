@@ -1,0 +1,16 @@
+-- The option is set, or can't have this value.
+use Rattle.std.proofs.Common.{refl, sym}
+use Rattle.wasm2text.specs.Arguments.{WrittenTo, IndentedBy, Colored}
+use Rattle.wasm2text.proofs.parser.Parser.set.Goals as goal
+
+pub returns-in-Output : goal.returns-in-Output
+returns-in-Output c = rw c.in-Output.is (WrittenTo c.args.value.now, refl, (c.write_to.ensures, refl))
+
+pub returns-in-Ok : goal.returns-in-Ok
+returns-in-Ok c =
+    let e = c.in-Ok.ensures.value in
+    rw c.in-Indent.is (IndentedBy c.in-Ok.spaces, (c.in-Ok.spaces, (e.0.0.0, e.0.0.1, e.0.1), refl), (c.indent_by.ensures, refl))
+
+pub returns-in-Some : goal.returns-in-Some
+returns-in-Some c =
+    rw c.in-Color.is (Colored c.in-Some.choice, (c.in-Some.choice, sym c.in-Some.ensures, refl), (c.choose_color.ensures, refl))

@@ -1,0 +1,32 @@
+//! The texts of `--help` and `--version`.
+
+/// The text of `--help`.
+pub const HELP: &str = "\
+Usage: wasm2text [OPTIONS] [FILE...]
+
+Prints WebAssembly modules as text, one after the other.
+FILE may be -, which is standard input, as is no FILE. Words after -- are files.
+
+Options:
+  -p, --print-offsets      Start each line with its byte offset in the module
+      --skeleton           Leave out bodies, element items and data bytes
+      --name-unnamed       Synthesize identifiers for items without a name
+  -f, --fold-instructions  Print each instruction in parentheses
+      --indent N           Indent each level by N spaces (default: 2)
+      --color WHEN         Print in colors: auto, always or never (default: auto)
+  -o, --output FILE        Write to FILE instead of standard output
+  -h, --help               Print this help
+  -V, --version            Print the version
+
+With --color auto, the text is in colors if standard output is a terminal,
+NO_COLOR is unset or empty, and there is no --output.
+
+Exit status:
+  0  all files were printed, or the reader of the text closed the pipe
+  1  a file was not read or not printed; the others are printed, except after
+     a failed write; a part of the text may have been written
+  2  the command line is wrong; nothing was printed
+";
+
+/// The text of `--version`.
+pub const VERSION: &str = "wasm2text 0.263.0-r1\n";

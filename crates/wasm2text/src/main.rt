@@ -1,0 +1,60 @@
+//! The program `wasm2text [OPTIONS] [FILE...]`, which prints WebAssembly modules as text.
+#![tactic(auto)]
+
+mod cause;
+mod help;
+mod messages;
+mod misuse;
+mod options;
+#[cfg(test)]
+mod output_file_tests;
+mod parser;
+mod printing;
+mod program;
+#[cfg(test)]
+mod program_tests;
+mod request;
+mod status;
+mod system;
+
+use program::{BUFFER_LEN, run};
+use status::FAILED;
+use std::env::VarError;
+use std::io::{BufWriter, ErrorKind, IsTerminal};
+use std::process::ExitCode;
+use std::{env, io};
+
+fn main(rt: HostRuntime) -> ExitCode {
+    let status = match start(&rt) {
+        Ok(status) => status,
+        Err(error) => {
+            let cause = match error.kind() {
+                ErrorKind::InvalidData => "an argument is not UTF-8",
+                ErrorKind::OutOfMemory => "out of memory",
+                _ => "the arguments can't be read",
+            };
+            let _ = eprintln!(rt; "wasm2text: {cause}");
+            FAILED
+        }
+    };
+    ExitCode::from(status)
+}
+
+/// Runs the program on the system, and returns the exit status.
+fn start(rt: &HostRuntime) -> io::Result<u8> {
+    let words = env::args(rt)?.skip(1).collect::<Vec<String>>(rt.alloc())?;
+    let out = BufWriter::with_capacity(rt.alloc(), BUFFER_LEN, rt.stdout())?;
+    let shows_colors = shows_colors(rt);
+    let (status, _) = run(rt, rt.alloc(), &words, shows_colors, out, &mut rt.stderr());
+    Ok(status)
+}
+
+/// Returns whether standard output is a terminal and `NO_COLOR` is unset or empty.
+fn shows_colors(rt: &HostRuntime) -> bool {
+    let is_unset = match env::var(rt, "NO_COLOR") {
+        Ok(value) => value.is_empty(),
+        Err(VarError::NotPresent) => true,
+        Err(_) => false,
+    };
+    is_unset && rt.stdout().is_terminal()
+}
