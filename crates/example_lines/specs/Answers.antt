@@ -23,10 +23,9 @@ IsAnswer lines len query found =
 -- The query has no answer for this cause: the module has no such byte, the text has no such line, the line with the
 -- number has no place, or each place is after the byte.
 abbrev pub IsCauseOf : Lines → ℕ → Query → Cause → Type 0
-IsCauseOf lines len (Byte offset) (NoByte o l) = (o ≡ offset) × (l ≡ len) × (len ≤ offset)
+IsCauseOf lines len (Byte offset) (NoByte l) = (l ≡ len) × (len ≤ offset)
 IsCauseOf lines len (Byte offset) (NoPlace query) = (query ≡ Byte offset) × IsAfterByte lines offset
-IsCauseOf lines len (Line number) (NoLine n count) =
-    (n ≡ number) × (count ≡ length lines) × ((number ≡ 0) ⊎ (length lines < number))
+IsCauseOf lines len (Line number) (NoLine count) = (count ≡ length lines) × ((number ≡ 0) ⊎ (length lines < number))
 IsCauseOf lines len (Line number) (NoPlace query) =
     (query ≡ Line number) × ((index : ℕ) × (index + 1 ≡ number) × (place_at lines index ≡ None))
 IsCauseOf lines len query cause = ⊥
