@@ -1,11 +1,10 @@
 -- The line that answers a query.
-use Rattle.std.specs.Prelude.{◌≡◌, ◌⊎◌, ℕ, ◌+◌, ◌<◌, ◌≤◌, List, Option, Some, None, option_map, slice_get, length}
-use Rattle.std.specs.Borrow.{Bor}
+use Rattle.std.specs.Prelude.{◌≡◌, ◌⊎◌, ℕ, ◌+◌, ◌<◌, ◌≤◌, Some, None, slice_get, length}
 use Rattle.example_lines.specs.Places.{Lines, place_at, ShowsByte, IsAfterByte}
 use Rattle.example_lines.specs.declared.query.Query.{Query}
 use Rattle.example_lines.specs.declared.query.Query.TheVariants.{Byte, Line}
 use Rattle.example_lines.specs.declared.failure.Cause.{Cause}
-use Rattle.example_lines.specs.declared.failure.Cause.TheVariants.{Refused, NoByte, NoLine, NoPlace}
+use Rattle.example_lines.specs.declared.failure.Cause.TheVariants.{NoByte, NoLine, NoPlace}
 use Rattle.example_lines.specs.declared.line_search.Found.{Found}
 
 -- The line at this index answers a query about a module with `len` bytes and these lines: it shows the byte, or has the
