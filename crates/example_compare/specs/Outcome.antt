@@ -1,7 +1,6 @@
 -- The results of a run, and the lines and statuses of its failures.
-use Rattle.std.specs.Prelude.{◌≡◌, ◌≢◌, ◌↔◌, ◌⊎◌, ℕ, List, [], ◌∷◌, ◌++◌, Option, Some, None, codes, length}
+use Rattle.std.specs.Prelude.{◌≡◌, ◌↔◌, ℕ, List, [], ◌∷◌, ◌++◌, Option, Some, None, codes}
 use Rattle.wasmprinter_bytes.specs.Messages.{error_text}
-use Rattle.wasmprinter_bytes.specs.declared.library_error.Error.TheVariants.{Memory}
 use Rattle.wasmprinter_spec.specs.Options.{defaults}
 use Rattle.wasmprinter.specs.TextOfFile.{Reading, IsTextOfFile, IsRefusedBy}
 use Rattle.example_compare.specs.declared.Comparison.{Comparison}
@@ -35,12 +34,3 @@ Compares may_read words comparison =
 abbrev pub IsRefused : (List ℕ → Reading) → List ℕ → Failure → Type 0
 IsRefused may_read name (Refused file error) = (file.now ≡ name) × IsRefusedBy defaults (may_read name) error
 IsRefused may_read name failure = ⊥
-
--- A run with these words has this failure: there are not exactly two words; or one of the files that they name has no
--- text, or memory runs out.
-abbrev pub IsFailureOf : (List ℕ → Reading) → List (List ℕ) → Failure → Type 0
-IsFailureOf may_read words Usage = length words ≢ 2
-IsFailureOf may_read words (Refused file error) =
-    (left right : List ℕ) × (words ≡ left ∷ (right ∷ [])) × ((file.now ≡ left) ⊎ (file.now ≡ right))
-    × ((error ≡ Memory) ⊎ IsRefusedBy defaults (may_read file.now) error)
-IsFailureOf may_read words failure = ⊥

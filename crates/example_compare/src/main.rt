@@ -8,7 +8,7 @@
 
 ghost use Rattle.std.specs.Prelude.{◌≡◌, ◌↔◌, IfOk, IfErr, map, string_bytes};
 ghost use Rattle.std.specs.Process.{exit_status};
-ghost use Rattle.example_compare.specs.Outcome.{status_of, Compares, IsFailureOf, IsRefused, IsEqual};
+ghost use Rattle.example_compare.specs.Outcome.{status_of, Compares, IsRefused, IsEqual};
 ghost use Rattle.wasmprinter.specs.TextOfFile.{IsTextOfFile};
 
 mod difference;
@@ -70,8 +70,7 @@ fn run<'a, S: Source>(
     alloc: Global,
     words: &'a [String],
 ) -> Result<Comparison, Failure<'a>>
-    ensures compared { IfOk result (Compares (S.may_read source.now) (map string_bytes words.now)) }
-    ensures failed { IfErr result (IsFailureOf (S.may_read source.now) (map string_bytes words.now)) }
+    ensures { IfOk result (Compares (S.may_read source.now) (map string_bytes words.now)) }
 {
     let [left, right] = words else {
         return Err(Failure::Usage);

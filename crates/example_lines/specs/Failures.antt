@@ -1,6 +1,6 @@
 -- The lines and the statuses of failures.
 use Rattle.std.specs.Prelude.{ℕ, List, ◌++◌, Option, Some, None, codes, decimal}
-use Rattle.wasmprinter_bytes.specs.Messages.{error_text, place_text}
+use Rattle.wasmprinter_bytes.specs.Messages.{error_text}
 use Rattle.example_lines.specs.Queries.{query_text}
 use Rattle.example_lines.specs.declared.failure.Failure.{Failure}
 use Rattle.example_lines.specs.declared.failure.Failure.TheVariants.{Usage, NoAnswer}
@@ -15,8 +15,8 @@ status_of failure = 1
 -- The text of a cause.
 abbrev pub cause_text : Cause → List ℕ
 cause_text (Refused error) = error_text error
-cause_text (NoByte offset len) = codes "byte " ++ (place_text offset ++ (codes " is not in the module, which has " ++ (decimal len ++ codes " bytes")))
-cause_text (NoLine number count) = codes "line " ++ (decimal number ++ (codes " is not in the text, which has " ++ (decimal count ++ codes " lines")))
+cause_text (NoByte len) = codes "the module has only " ++ (decimal len ++ codes " bytes")
+cause_text (NoLine count) = codes "the text has only lines 1 to " ++ decimal count
 cause_text (NoPlace query) = query_text query ++ codes " has no place"
 
 -- The line that reports a failure, or `None` if no contract specifies the text of its error.

@@ -3,4 +3,3 @@ pub mod Places
 pub mod Queries
 pub mod Failures
 pub mod Answers
-pub mod Runs

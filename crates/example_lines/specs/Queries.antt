@@ -1,5 +1,5 @@
 -- What the second argument asks for.
-use Rattle.std.specs.Prelude.{ℕ, ◌<◌, ◌++◌, ◌^◌, List, Bool, Option, MatchBool, false, codes, decimal, drop, nat_eq}
+use Rattle.std.specs.Prelude.{ℕ, ◌<◌, ◌++◌, ◌^◌, List, Option, MatchBool, false, codes, decimal, drop, nat_eq}
 use Rattle.std.specs.Fmt.{digits}
 use Rattle.std.specs.List.{starts_with}
 use Rattle.std.specs.Option.{SomeIff}

@@ -39,15 +39,11 @@ pub enum Cause {
     Refused(Error),
     /// The module has no byte at the offset.
     NoByte {
-        /// The offset.
-        offset: u64,
         /// The number of bytes of the module.
         len: u64,
     },
     /// The text has no line with the number.
     NoLine {
-        /// The number of the line, counted from 1.
-        number: u64,
         /// The number of lines of the text.
         count: u64,
     },
@@ -86,18 +82,8 @@ impl fmt::Display for Cause {
     fn fmt<W: fmt::Write>(&self, f: &mut fmt::Formatter<W>) -> fmt::Result {
         match self {
             Cause::Refused(error) => write!(f, "{error}"),
-            Cause::NoByte { offset, len } => {
-                write!(
-                    f,
-                    "byte 0x{offset:x} is not in the module, which has {len} bytes"
-                )
-            }
-            Cause::NoLine { number, count } => {
-                write!(
-                    f,
-                    "line {number} is not in the text, which has {count} lines"
-                )
-            }
+            Cause::NoByte { len } => write!(f, "the module has only {len} bytes"),
+            Cause::NoLine { count } => write!(f, "the text has only lines 1 to {count}"),
             Cause::NoPlace(query) => write!(f, "{query} has no place"),
         }
     }

@@ -45,15 +45,12 @@ fn index_of(lines: &[(Option<u64>, &str)], len: u64, query: Query) -> Result<usi
 {
     let count = lines.len() as u64;
     match query {
-        Query::Byte(offset) if offset >= len => Err(Cause::NoByte { offset, len }),
+        Query::Byte(offset) if offset >= len => Err(Cause::NoByte { len }),
         Query::Byte(offset) => match line_of_byte(lines, offset) {
             Some((index, _)) => Ok(index),
             None => Err(Cause::NoPlace(query)),
         },
-        Query::Line(number) if number == 0 || number > count => Err(Cause::NoLine {
-            number,
-            count,
-        }),
+        Query::Line(number) if number == 0 || number > count => Err(Cause::NoLine { count }),
         Query::Line(number) => Ok(number as usize - 1),
     }
 }

@@ -5,10 +5,9 @@
 //! memory. `main` collects the arguments, prints the result of `run`, and chooses the exit status.
 #![tactic(auto)]
 
-ghost use Rattle.std.specs.Prelude.{◌≡◌, OnOk, IfErr, map, string_bytes};
+ghost use Rattle.std.specs.Prelude.{◌≡◌};
 ghost use Rattle.std.specs.Process.{exit_status};
 ghost use Rattle.example_lines.specs.Failures.{status_of};
-ghost use Rattle.example_lines.specs.Runs.{IsUse, IsFailureOf};
 
 mod failure;
 mod line_search;
@@ -55,10 +54,11 @@ fn report<R: Eprint>(rt: &R, failure: &Failure<'_>) -> ExitCode
 }
 
 /// Returns the answer to the words: a file, and a byte offset or a line of its text.
-fn run<'a, S: Source>(source: &S, alloc: Global, words: &'a [String]) -> Result<String, Failure<'a>>
-    ensures used { OnOk result (IsUse (map string_bytes words.now)) }
-    ensures failed { IfErr result (IsFailureOf (map string_bytes words.now)) }
-{
+fn run<'a, S: Source>(
+    source: &S,
+    alloc: Global,
+    words: &'a [String],
+) -> Result<String, Failure<'a>> {
     let [file, word] = words else {
         return Err(Failure::Usage);
     };

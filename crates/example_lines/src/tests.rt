@@ -132,17 +132,11 @@ fn finds_places_of_lines(rt: HostRuntime) -> Result<(), Fail> {
 
 /// Bytes outside the module, and lines outside the text.
 const OUTSIDE: &[Row] = &[
-    (
-        "64",
-        "error: hint.wasm: byte 0x40 is not in the module, which has 64 bytes",
-    ),
-    (
-        "line:0",
-        "error: hint.wasm: line 0 is not in the text, which has 9 lines",
-    ),
+    ("64", "error: hint.wasm: the module has only 64 bytes"),
+    ("line:0", "error: hint.wasm: the text has only lines 1 to 9"),
     (
         "line:10",
-        "error: hint.wasm: line 10 is not in the text, which has 9 lines",
+        "error: hint.wasm: the text has only lines 1 to 9",
     ),
 ];
 
