@@ -1,8 +1,8 @@
 -- The results of a run, and the lines and statuses of its failures.
-use Rattle.std.specs.Prelude.{◌≡◌, ◌↔◌, ℕ, List, [], ◌∷◌, ◌++◌, Option, Some, None, codes}
+use Rattle.std.specs.Prelude.{◌≡◌, ℕ, List, ◌++◌, Option, Some, None, codes}
 use Rattle.wasmprinter_bytes.specs.Messages.{error_text}
 use Rattle.wasmprinter_spec.specs.Options.{defaults}
-use Rattle.wasmprinter.specs.TextOfFile.{Reading, IsTextOfFile, IsRefusedBy}
+use Rattle.wasmprinter.specs.TextOfFile.{Reading, IsRefusedBy}
 use Rattle.example_compare.specs.declared.Comparison.{Comparison}
 use Rattle.example_compare.specs.declared.Comparison.TheVariants.{Equal}
 use Rattle.example_compare.specs.declared.failure.Failure.{Failure}
@@ -22,13 +22,6 @@ failure_line failure = None
 -- The comparison says that the modules are equal.
 abbrev pub IsEqual : Comparison → Type 0
 IsEqual comparison = comparison ≡ Equal
-
--- The two words name files, and reading them may return modules with texts that are equal if and only if the comparison
--- says so. `may_read` gives the possible results of reading each file.
-abbrev pub Compares : (List ℕ → Reading) → List (List ℕ) → Comparison → Type 0
-Compares may_read words comparison =
-    (left right x y : List ℕ) × (words ≡ left ∷ (right ∷ [])) × IsTextOfFile (may_read left) x × IsTextOfFile (may_read right) y
-    × (IsEqual comparison ↔ (x ≡ y))
 
 -- The failure is that of a file that has no text for its error.
 abbrev pub IsRefused : (List ℕ → Reading) → List ℕ → Failure → Type 0

@@ -6,9 +6,9 @@
 //! memory. `main` collects the arguments, prints the result of `run`, and chooses the exit status.
 #![tactic(auto)]
 
-ghost use Rattle.std.specs.Prelude.{◌≡◌, ◌↔◌, IfOk, IfErr, map, string_bytes};
+ghost use Rattle.std.specs.Prelude.{◌≡◌, ◌↔◌, IfOk, IfErr, string_bytes};
 ghost use Rattle.std.specs.Process.{exit_status};
-ghost use Rattle.example_compare.specs.Outcome.{status_of, Compares, IsRefused, IsEqual};
+ghost use Rattle.example_compare.specs.Outcome.{status_of, IsRefused, IsEqual};
 ghost use Rattle.wasmprinter.specs.TextOfFile.{IsTextOfFile};
 
 mod difference;
@@ -69,9 +69,7 @@ fn run<'a, S: Source>(
     source: &S,
     alloc: Global,
     words: &'a [String],
-) -> Result<Comparison, Failure<'a>>
-    ensures { IfOk result (Compares (S.may_read source.now) (map string_bytes words.now)) }
-{
+) -> Result<Comparison, Failure<'a>> {
     let [left, right] = words else {
         return Err(Failure::Usage);
     };
