@@ -1,104 +1,67 @@
-//! `example_compare FILE FILE` compares the texts of two modules. If they differ, it prints the first line that differs
-//! in both, each with the field of the module that it belongs to. Like `cmp`, it ends with status 0 if they are equal,
-//! 1 if they differ, and prints nothing if they are equal.
-//!
-//! The work is in `run`, which reads files from any [`Source`] and prints nothing, so that tests call it with files in
-//! memory. `main` collects the arguments, prints the result of `run`, and chooses the exit status.
+//! `example_compare FILE FILE` compares the texts of two modules. It prints the first line that differs, and the
+//! header of the function that contains the line.
 #![tactic(auto)]
 
-ghost use Rattle.std.specs.Prelude.{◌≡◌, ◌↔◌, IfOk, IfErr, string_bytes};
-ghost use Rattle.std.specs.Process.{exit_status};
-ghost use Rattle.example_compare.specs.Outcome.{status_of, IsRefused, IsEqual};
-ghost use Rattle.wasmprinter.specs.TextOfFile.{IsTextOfFile};
-
-mod difference;
-mod failure;
-mod field;
-#[cfg(test)]
-mod tests;
-
-use difference::Difference;
-use failure::Failure;
-use std::alloc::{AllocError, Global};
+use std::alloc::Global;
+use std::env;
 use std::path::Path;
-use std::process::ExitCode;
-use std::rt::Env;
-use std::{env, io};
-use wasmprinter::{Error, Source, print_file};
+use wasmprinter::{Error, print_file};
 
-/// The result of a comparison.
-#[derive(Debug, Drop)]
-enum Comparison {
-    /// The modules have the same text.
-    Equal,
-    /// The modules differ. The text describes the first difference.
-    Different(String),
-}
+/// The start of a function's header.
+const HEADER: &str = "  (func";
 
-fn main(rt: HostRuntime) -> ExitCode {
-    let words = match words_of(&rt) {
-        Ok(words) => words,
-        Err(error) => return report(&rt, &Failure::Arguments(error)),
-    };
-    let difference = match run(&rt, rt.alloc(), &words) {
-        Ok(Comparison::Equal) => return ExitCode::SUCCESS,
-        Ok(Comparison::Different(difference)) => difference,
-        Err(failure) => return report(&rt, &failure),
-    };
-    match print!(rt; "{difference}") {
-        Ok(()) => ExitCode::FAILURE,
-        Err(error) => report(&rt, &Failure::Output(error)),
+/// Returns the index of the first line that differs, or `None` if the texts are equal.
+fn first_difference(left: &[&str], right: &[&str]) -> Option<usize> {
+    let most = left.len().max(right.len());
+    for index in 0..most {
+        if left.get(index) != right.get(index) {
+            return Some(index);
+        }
     }
+    None
 }
 
-/// Returns the arguments without the first, which is the program's name.
-fn words_of<R: Env + AllocGlobal>(rt: &R) -> io::Result<Vec<String>> {
-    Ok(env::args(rt)?.skip(1).collect(rt.alloc())?)
+/// Returns the header of the function that contains a line, or of the last function before the line.
+fn header_before<'a>(lines: &[&'a str], index: usize) -> Option<&'a str> {
+    let mut header = None;
+    for line in lines.iter().take(index.saturating_add(1)) {
+        if line.starts_with(HEADER) {
+            header = Some(*line);
+        }
+    }
+    header
 }
 
-/// Writes the line of a failure to standard error, and returns the exit status. A failure to write the line is ignored.
-fn report<R: Eprint>(rt: &R, failure: &Failure<'_>) -> ExitCode
-    ensures { exit_status result ≡ status_of failure.now }
-{
-    let _ = eprintln!(rt; "{failure}");
-    ExitCode::from(failure.status())
-}
-
-/// Compares the modules in the two files that the words name.
-fn run<'a, S: Source>(
-    source: &S,
-    alloc: Global,
-    words: &'a [String],
-) -> Result<Comparison, Failure<'a>> {
-    let [left, right] = words else {
-        return Err(Failure::Usage);
+/// Prints the first difference of two texts.
+fn compare<R: Print>(rt: &R, alloc: Global, left: &str, right: &str) -> Result<(), Error> {
+    let left = left.lines().collect::<Vec<&str>>(alloc)?;
+    let right = right.lines().collect::<Vec<&str>>(alloc)?;
+    let Some(index) = first_difference(&left, &right) else {
+        println!(rt; "the texts are equal")?;
+        return Ok(());
     };
-    let (left, right) = (left.as_str(), right.as_str());
-    let left_text = text_of(source, alloc, left)?;
-    let right_text = text_of(source, alloc, right)?;
-    match compare(alloc, left_text.as_str(), right_text.as_str()) {
-        Ok(comparison) => Ok(comparison),
-        Err(_) => Err(Failure::Refused {
-            file: right,
-            error: Error::Memory,
-        }),
+    let number = index.saturating_add(1);
+    println!(rt; "the texts differ at line {number}")?;
+    if let Some(header) = header_before(&left, index) {
+        println!(rt; "{header}")?;
     }
+    if let Some(line) = left.get(index) {
+        println!(rt; "- {line}")?;
+    }
+    if let Some(line) = right.get(index) {
+        println!(rt; "+ {line}")?;
+    }
+    Ok(())
 }
 
-/// Returns the text of the module in a file.
-fn text_of<'a, S: Source>(source: &S, alloc: Global, file: &'a str) -> Result<String, Failure<'a>>
-    ensures printed { IfOk result (λ text. IsTextOfFile (S.may_read source.now file.entry.now) (string_bytes text)) }
-    ensures refused { IfErr result (IsRefused (S.may_read source.now) file.entry.now) }
-{
-    print_file(source, alloc, Path::new(file)).map_err(|error| Failure::Refused { file, error })
-}
-
-/// Compares two texts.
-fn compare(alloc: Global, left: &str, right: &str) -> Result<Comparison, AllocError>
-    ensures { IfOk result (λ comparison. IsEqual comparison ↔ (left.now ≡ right.now)) }
-{
-    match Difference::of_texts(alloc, left, right)? {
-        None => Ok(Comparison::Equal),
-        Some(difference) => Ok(Comparison::Different(difference.to_string(alloc)?)),
-    }
+fn main(rt: HostRuntime) -> Result<(), Error> {
+    let alloc = rt.alloc();
+    let words = env::args(&rt)?.skip(1).collect::<Vec<String>>(alloc)?;
+    let (Some(left), Some(right)) = (words.get(0), words.get(1)) else {
+        eprintln!(rt; "usage: example_compare FILE FILE")?;
+        return Ok(());
+    };
+    let left = print_file(&rt, alloc, Path::new(left.as_str()))?;
+    let right = print_file(&rt, alloc, Path::new(right.as_str()))?;
+    compare(&rt, alloc, left.as_str(), right.as_str())
 }

@@ -1,88 +1,56 @@
-//! `example_lines FILE OFFSET` is a source map: it prints the line of a module's text that shows the byte at an offset.
-//! `example_lines FILE line:NUMBER` maps the other way: it prints the byte offset at which a line starts.
-//!
-//! The work is in `run`, which reads files from any [`Source`] and prints nothing, so that tests call it with files in
-//! memory. `main` collects the arguments, prints the result of `run`, and chooses the exit status.
+//! `example_lines FILE OFFSET..` is a source map. For each byte offset in a module, it prints the line of the text
+//! that shows the byte, and the byte offset at which that line starts.
 #![tactic(auto)]
 
-ghost use Rattle.std.specs.Prelude.{◌≡◌};
-ghost use Rattle.std.specs.Process.{exit_status};
-ghost use Rattle.example_lines.specs.Failures.{status_of};
+ghost use Rattle.std.specs.Prelude.{◌<◌, IfSome, length};
 
-mod failure;
-mod line_search;
-mod query;
-#[cfg(test)]
-mod tests;
-
-use failure::{Cause, Failure};
-use line_search::find;
-use query::Query;
-use std::alloc::Global;
 use std::path::Path;
-use std::process::ExitCode;
-use std::rt::Env;
-use std::{env, io};
-use wasmprinter::{Config, Error, Source};
+use std::{env, fs, io};
+use wasmprinter::{Config, Error};
 
-fn main(rt: HostRuntime) -> ExitCode {
-    let words = match words_of(&rt) {
-        Ok(words) => words,
-        Err(error) => return report(&rt, &Failure::Arguments(error)),
-    };
-    let answer = match run(&rt, rt.alloc(), &words) {
-        Ok(answer) => answer,
-        Err(failure) => return report(&rt, &failure),
-    };
-    match println!(rt; "{answer}") {
-        Ok(()) => ExitCode::SUCCESS,
-        Err(error) => report(&rt, &Failure::Output(error)),
-    }
-}
-
-/// Returns the arguments without the first, which is the program's name.
-fn words_of<R: Env + AllocGlobal>(rt: &R) -> io::Result<Vec<String>> {
-    Ok(env::args(rt)?.skip(1).collect(rt.alloc())?)
-}
-
-/// Writes the line of a failure to standard error, and returns the exit status. A failure to write the line is ignored.
-fn report<R: Eprint>(rt: &R, failure: &Failure<'_>) -> ExitCode
-    ensures { exit_status result ≡ status_of failure.now }
+/// Returns the index of the line that shows a byte: the last line whose place is not after the byte.
+fn line_at(lines: &[(Option<u64>, &str)], offset: u64) -> Option<usize>
+    ensures { IfSome result (λ index. index < length lines.now) }
 {
-    let _ = eprintln!(rt; "{failure}");
-    ExitCode::from(failure.status())
+    let mut found = None;
+    for index in 0..lines.len() {
+        if lines[index].0.is_some_and(|place| place <= offset) {
+            found = Some(index);
+        }
+    }
+    found
 }
 
-/// Returns the answer to the words: a file, and a byte offset or a line of its text.
-fn run<'a, S: Source>(
-    source: &S,
-    alloc: Global,
-    words: &'a [String],
-) -> Result<String, Failure<'a>> {
-    let [file, word] = words else {
-        return Err(Failure::Usage);
+/// Prints the line that shows a byte, and the byte offset at which that line starts.
+fn print_line<R: Print>(rt: &R, lines: &[(Option<u64>, &str)], offset: u64) -> io::Result<()> {
+    let Some(index) = line_at(lines, offset) else {
+        return println!(rt; "byte {offset:#x} is on no line");
     };
-    let Some(query) = Query::from_word(word.as_str()) else {
-        return Err(Failure::Usage);
-    };
-    let file = file.as_str();
-    answer(source, alloc, file, query).map_err(|cause| Failure::NoAnswer { file, cause })
+    let (place, text) = lines[index];
+    let start = place.unwrap_or(0);
+    let number = index.saturating_add(1);
+    println!(rt;
+        "byte {offset:#x} is on line {number}, which starts at byte {start:#x}: {}",
+        text.trim()
+    )
 }
 
-/// Returns the answer to a query about the module in a file.
-fn answer<S: Source>(source: &S, alloc: Global, file: &str, query: Query) -> Result<String, Cause> {
-    let wasm = source.read(Path::new(file)).map_err(|_| Error::Unreadable)?;
+fn main(rt: HostRuntime) -> Result<(), Error> {
+    let alloc = rt.alloc();
+    let words = env::args(&rt)?.skip(1).collect::<Vec<String>>(alloc)?;
+    let Some(file) = words.first() else {
+        eprintln!(rt; "usage: example_lines FILE OFFSET..")?;
+        return Ok(());
+    };
+    let wasm = fs::read(&rt, Path::new(file.as_str()))?;
     let mut storage = String::new(alloc);
     let text = Config::new().offsets_and_lines(alloc, &wasm, &mut storage)?;
     let lines: Vec<(Option<u64>, &str)> = text.collect(alloc)?;
-    let found = find(&lines, wasm.len() as u64, query)?;
-    let number = found.number;
-    let place = found.place;
-    let text = found.text.trim();
-    Ok(match query {
-        Query::Byte(_) => format!(in alloc;
-            "{query} is on line {number}, which starts at byte 0x{place:x}: {text}"
-        )?,
-        Query::Line(_) => format!(in alloc; "{query} starts at byte 0x{place:x}: {text}")?,
-    })
+    for word in words.iter().skip(1) {
+        match word.as_str().parse::<u64>() {
+            Ok(offset) => print_line(&rt, &lines, offset)?,
+            Err(_) => eprintln!(rt; "not an offset: {word}")?,
+        }
+    }
+    Ok(())
 }

@@ -1,2 +1,0 @@
--- Lemmas on the search of a line.
-pub mod Search

@@ -1,2 +1,0 @@
--- Definitions that the contracts of the program cite.
-pub mod Outcome
