@@ -48,17 +48,7 @@ fn print_by<'s, 'a, P: Print, K: LayoutOptions>(
 {
     let mut out: Printer<'_, '_, P, K> = Printer::new(p, options);
     write_module(&mut out, module, labels, folder);
-    let Printer {
-        printer: _,
-        options: _,
-        halt,
-        begun: _,
-        of: _,
-    } = out;
-    match halt {
-        None => Ok(()),
-        Some(halt) => Err(halt.into_error()),
-    }
+    out.finish()
 }
 
 /// Prints a module. `labels` also holds the identifiers of the module. If operators are folded, a list with a legacy

@@ -6,20 +6,28 @@ use Rattle.wasmprinter_spec.specs.Piece.{Piece, calls}
 use Rattle.wasmprinter_spec.specs.Layout.Customs.{Part, Shown, Stops, laid_parts}
 use Rattle.wasmprinter_spec.specs.Layout.Groups.{breaks, close, has_break}
 
--- A group was closed: its closing parenthesis was written, and then the group was left.
-pub record Closed {S : Type 0} (wrote : S → S → List Piece → Type 0) (begun : S → Bool) (left_group : S → S → Bool → Type 0) (old new : S)
-    (place : Option ℕ) (nesting : ℕ) (outer_begun : Bool) : Type 0 where
-  pub last : S
-  pub parenthesis : wrote old last (close place nesting (begun old))
-  pub leaves : left_group last new outer_begun
+-- What an output says of groups: which pieces were written, whether a line has begun in the innermost open group,
+-- and that this group was left. The Boolean then says whether a line had begun in the group around it.
+pub record Groups (S : Type 0) : Type 1 where
+  pub wrote : S → S → List Piece → Type 0
+  pub begun : S → Bool
+  pub left_group : S → S → Bool → Type 0
 
--- A group that ends at a place was closed. Its closing parenthesis is also on a line of its own if lines begin with
--- their places.
-pub record ClosedAt {S : Type 0} (o : Options) (wrote : S → S → List Piece → Type 0) (begun : S → Bool) (left_group : S → S → Bool → Type 0) (old new : S)
-    (place nesting : ℕ) (outer_begun : Bool) : Type 0 where
+-- The three of them, in this order.
+abbrev pub groups : {S : Type 0} → (S → S → List Piece → Type 0) → (S → Bool) → (S → S → Bool → Type 0) → Groups S
+groups w b l = record { wrote = w; begun = b; left_group = l }
+
+-- The closing parenthesis of a group that ends at a place, by whether a line has begun in the group. It is also on a
+-- line of its own if lines begin with their places. The order of the numbers is: place, nesting depth.
+abbrev pub close_at : Options → ℕ → ℕ → Bool → List Piece
+close_at o place nesting begun = close (Some place) nesting (o.offsets || begun)
+
+-- A group was closed: its closing parenthesis was written, and then the group was left. `parenthesis` is what closes
+-- it, by whether a line has begun in it.
+pub record Closed {S : Type 0} (g : Groups S) (old new : S) (parenthesis : Bool → List Piece) (outer_begun : Bool) : Type 0 where
   pub last : S
-  pub parenthesis : wrote old last (close (Some place) nesting (o.offsets || begun old))
-  pub leaves : left_group last new outer_begun
+  pub written : g.wrote old last (parenthesis (g.begun old))
+  pub leaves : g.left_group last new outer_begun
 
 module _ {S : Type 0} (called : S → S → List Call → Type 0) where
   -- A call, and then others.
@@ -84,14 +92,14 @@ module _ {S : Type 0} (wrote : S → S → List Piece → Type 0) (begun : S →
   abbrev pub GroupOf : Type 0
   GroupOf =
       (a s t v : S) (outer_begun : Bool) (place : Option ℕ) (n : ℕ) (xs : List Piece) → opened a s outer_begun → wrote s t xs →
-      Closed wrote begun left_group t v place n outer_begun → wrote a v (xs ++ close place n (has_break xs))
+      Closed (groups wrote begun left_group) t v (close place n) outer_begun → wrote a v (xs ++ close place n (has_break xs))
 
 module _ {S : Type 0} (o : Options) (wrote : S → S → List Piece → Type 0) (begun : S → Bool) (opened left_group : S → S → Bool → Type 0) where
   -- The contents of a group that ends at a place, and its closing parenthesis.
   abbrev pub GroupAtOf : Type 0
   GroupAtOf =
       (a s t v : S) (outer_begun : Bool) (place n : ℕ) (xs : List Piece) → opened a s outer_begun → wrote s t xs →
-      ClosedAt o wrote begun left_group t v place n outer_begun → wrote a v (xs ++ close (Some place) n (o.offsets || has_break xs))
+      Closed (groups wrote begun left_group) t v (close_at o place n) outer_begun → wrote a v (xs ++ close (Some place) n (o.offsets || has_break xs))
 
 module _ {S : Type 0} (o : Options) (wrote : S → S → List Piece → Type 0) (laid : S → S → List Part → Type 0) (begun : S → Bool)
     (opened left_group : S → S → Bool → Type 0) where
@@ -100,5 +108,5 @@ module _ {S : Type 0} (o : Options) (wrote : S → S → List Piece → Type 0) 
   abbrev pub PartsAtOf : Type 0
   PartsAtOf =
       (a s t v : S) (outer_begun : Bool) (place n : ℕ) (ps : List Part) → opened a s outer_begun → laid s t ps →
-      ClosedAt o wrote begun left_group t v place n outer_begun →
+      Closed (groups wrote begun left_group) t v (close_at o place n) outer_begun →
       laid a v (ps ++ (Shown (close (Some place) n (o.offsets || has_break (laid_parts ps).pieces)) ∷ []))

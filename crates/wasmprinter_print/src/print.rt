@@ -1,8 +1,8 @@
 //! The trait [`Print`]: the destination for text, lines and styles.
 ghost use Rattle.std.specs.Prelude.{◌≡◌, Bool, [], ◌∷◌};
-ghost use Rattle.wasmprinter_spec.specs.Call.{Text, Newline, Line, Start, Literal, Name, Keyword, TypeName, Comment, Reset};
+ghost use Rattle.wasmprinter_spec.specs.Call.{Text, Newline, Line, Start, Claim, Literal, Name, Keyword, TypeName, Comment, Reset};
 ghost use Rattle.wasmprinter_spec.specs.Meaning.{Meaning, Succeeded};
-ghost use Rattle.wasmprinter_print.specs.MadeCalls.{Does, Claims, MadeCalls, ending};
+ghost use Rattle.wasmprinter_print.specs.MadeCalls.{Does, Asks, MadeCalls, ending};
 
 use std::io;
 
@@ -72,7 +72,7 @@ pub trait Print {
         binary_offset: u64,
         bytes: &[u8],
     ) -> io::Result<bool>
-        ensures { Claims meaning self.old name.now binary_offset bytes.now self.new result };
+        ensures { Asks meaning self.old (Claim name.now binary_offset bytes.now) self.new result };
 
     /// Starts the style of numbers and strings.
     ///

@@ -1,9 +1,11 @@
 //! The output over a printer.
 ghost use Rattle.std.specs.Prelude.{◌≡◌, None, false};
 ghost use Rattle.wasmprinter_spec.specs.Options.{Options, defaults, with_color};
+ghost use Rattle.wasmprinter_print.specs.Errors.{result_of};
 
 use crate::{FoldingOutput, Halt, Output, Print, PrintOptions, Style};
 use std::marker::{Brand, PhantomData};
+use wasmprinter_bytes::Error;
 
 /// The options of a layout, as contracts know them. A caller picks them by `Brand`.
 pub trait LayoutOptions {
@@ -43,6 +45,30 @@ impl<'o, 'p, P, K: LayoutOptions> Printer<'o, 'p, P, K> {
             halt: None,
             begun: false,
             of: PhantomData,
+        }
+    }
+
+    /// Ends the output, so that its printer can be used again. Returns the error that was recorded, if any.
+    ///
+    /// # Errors
+    ///
+    /// - `Printer` with the printer's error, for [`Halt::Printer`].
+    /// - `Memory`, for [`Halt::Memory`].
+    /// - `DylinkSubsection` with the id, for [`Halt::Refused`].
+    pub fn finish(self) -> Result<(), Error>
+        ensures printer { self.exit.0.now ≡ self.entry.printer.now }
+        ensures result { result ≡ result_of self.entry.halt }
+    {
+        let Printer {
+            printer: _,
+            options: _,
+            halt,
+            begun: _,
+            of: _,
+        } = self;
+        match halt {
+            None => Ok(()),
+            Some(halt) => Err(halt.into_error()),
         }
     }
 }
@@ -100,11 +126,11 @@ impl<'o, 'p, P: Print, K: LayoutOptions> Output for Printer<'o, 'p, P, K> {
     ghost no_piece = { λ a. (effect_none P.meaning K.options (state a.printer.now a.halt a.begun), refl) };
 
     ghost group_of = { λ a s t v outer_begun place n xs h w c.
-        (closed P.meaning K.options false outer_begun place n xs h.0 w.0 c.parenthesis.0 c.leaves.0, c.leaves.1 ∙ (c.parenthesis.1 ∙ (w.1 ∙ h.1))) };
+        (closed P.meaning K.options false outer_begun place n xs h.0 w.0 c.written.0 c.leaves.0, c.leaves.1 ∙ (c.written.1 ∙ (w.1 ∙ h.1))) };
 
     ghost group_at_of = { λ a s t v outer_begun place n xs h w c. (
-      closed P.meaning K.options K.options.offsets outer_begun (Some place) n xs h.0 w.0 c.parenthesis.0 c.leaves.0,
-      c.leaves.1 ∙ (c.parenthesis.1 ∙ (w.1 ∙ h.1)),
+      closed P.meaning K.options K.options.offsets outer_begun (Some place) n xs h.0 w.0 c.written.0 c.leaves.0,
+      c.leaves.1 ∙ (c.written.1 ∙ (w.1 ∙ h.1)),
     ) };
 
     ghost part_of = { λ a t xs v. (shown P.meaning K.options xs v.0, v.1) };
@@ -112,8 +138,8 @@ impl<'o, 'p, P: Print, K: LayoutOptions> Output for Printer<'o, 'p, P, K> {
     ghost stop_of = { λ a s t xs ys id v w. (stopped P.meaning K.options xs ys id v.0 w.0, w.1 ∙ v.1) };
 
     ghost parts_at_of = { λ a s t v outer_begun place n ps h w c. (
-      closed_parts P.meaning K.options K.options.offsets outer_begun (Some place) n ps h.0 w.0 c.parenthesis.0 c.leaves.0,
-      c.leaves.1 ∙ (c.parenthesis.1 ∙ (w.1 ∙ h.1)),
+      closed_parts P.meaning K.options K.options.offsets outer_begun (Some place) n ps h.0 w.0 c.written.0 c.leaves.0,
+      c.leaves.1 ∙ (c.written.1 ∙ (w.1 ∙ h.1)),
     ) };
 
     ghost part_then = { λ a s t p ps v w. (both_parts P.meaning K.options (p ∷ []) ps v.0 w.0, w.1 ∙ v.1) };

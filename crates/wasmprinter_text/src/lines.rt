@@ -4,7 +4,7 @@ ghost use Rattle.std.specs.Fmt.{digits};
 ghost use Rattle.wasmprinter_spec.specs.Call.{Text, Newline, Line};
 ghost use Rattle.wasmprinter_spec.specs.Piece.{Begin, EndLine, Break, most_indents, repetition_of, left_in, place_width, place_calls};
 ghost use Rattle.wasmprinter_spec.specs.Layout.Groups.{close};
-ghost use Rattle.wasmprinter_print.specs.OutputLaws.{Closed, ClosedAt};
+ghost use Rattle.wasmprinter_print.specs.OutputLaws.{Closed, groups, close_at};
 
 use crate::numbers::{hexadecimal_len, write_hexadecimal};
 use wasmprinter_print::{Output, Style};
@@ -158,7 +158,7 @@ fn write_close<O: Output>(out: &mut O, place: Option<u64>, nesting: u64, on_new_
 
 /// Closes a group. If the group contains a line break, it closes on a line of its own, which has no place.
 pub fn close_group<O: Output>(out: &mut O, nesting: u64, outer_begun: bool)
-    ensures { Closed O.wrote O.begun O.left_group out.old out.new None nesting outer_begun }
+    ensures { Closed (groups O.wrote O.begun O.left_group) out.old out.new (close None nesting) outer_begun }
 {
     let on_new_line = out.has_begun();
     write_close(out, None, nesting, on_new_line);
@@ -168,7 +168,7 @@ pub fn close_group<O: Output>(out: &mut O, nesting: u64, outer_begun: bool)
 /// Closes a group that ends at a place. If the group contains a line break, or lines begin with their places, it
 /// closes on a line of its own.
 pub fn close_group_at<O: Output>(out: &mut O, place: u64, nesting: u64, outer_begun: bool)
-    ensures { ClosedAt O.chosen O.wrote O.begun O.left_group out.old out.new place nesting outer_begun }
+    ensures { Closed (groups O.wrote O.begun O.left_group) out.old out.new (close_at O.chosen place nesting) outer_begun }
 {
     let on_new_line = out.offsets() || out.has_begun();
     write_close(out, Some(place), nesting, on_new_line);

@@ -104,17 +104,7 @@ pub fn write_value<P: Print, V: Value>(p: &mut P, value: &V) -> Result<(), Error
     let options = PrintOptions::new();
     let mut out: Printer<'_, '_, P, Brand> = Printer::new(p, &options);
     write_to_printer(&mut out, value);
-    let Printer {
-        printer: _,
-        options: _,
-        halt,
-        begun: _,
-        of: _,
-    } = out;
-    match halt {
-        None => Ok(()),
-        Some(halt) => Err(halt.into_error()),
-    }
+    out.finish()
 }
 
 /// Writes a text as a quoted string: printable ASCII characters except `"` and `\` unescaped, any other character

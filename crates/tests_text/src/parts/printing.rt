@@ -15,15 +15,7 @@ pub(crate) fn names_of<'a>(alloc: Global, section: &'a [u8]) -> Result<Names<'a>
 
 /// Ends printing. Returns whether a line began, or the error.
 pub(crate) fn finish<P, K: LayoutOptions>(out: Printer<'_, '_, P, K>) -> Result<bool, Error> {
-    let Printer {
-        printer: _,
-        options: _,
-        halt,
-        begun,
-        of: _,
-    } = out;
-    match halt {
-        None => Ok(begun),
-        Some(halt) => Err(halt.into_error()),
-    }
+    let begun = out.begun;
+    out.finish()?;
+    Ok(begun)
 }

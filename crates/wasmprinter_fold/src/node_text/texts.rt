@@ -134,17 +134,10 @@ impl Texts {
         let options = PrintOptions::new();
         let mut out: Printer<'_, '_, Texts, Brand> = Printer::new(self, &options);
         write_operator_word(&mut out, setting, labels, operator);
-        let Printer {
-            printer: _,
-            options: _,
-            halt,
-            begun: _,
-            of: _,
-        } = out;
-        if halt.is_some() {
-            return Err(AllocError);
+        match out.finish() {
+            Ok(()) => Ok(()),
+            Err(_) => Err(AllocError),
         }
-        Ok(())
     }
 
     /// Writes the text of an operator's node, its word and immediates, and returns its head. `labels` are those that
