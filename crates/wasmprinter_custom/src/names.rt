@@ -12,7 +12,7 @@ ghost use Rattle.wasmprinter_custom.specs.LabelViews.{label_view};
 
 use crate::name_subsection_ids;
 use crate::named_subsections::{SUBSECTIONS, marks_of};
-use crate::position_guesses::Guesses;
+use crate::name_position_guesses::Guesses;
 use crate::search::find;
 use crate::sorted_names_builder::SortedNames;
 use crate::space::Space;
