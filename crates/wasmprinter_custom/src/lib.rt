@@ -15,12 +15,12 @@ mod item_identifiers;
 mod name_position_guesses;
 mod name_section;
 mod name_subsection_ids;
-mod named_subsections;
 mod names;
 mod producers;
 mod search;
 mod sorted_names_builder;
 mod space;
+mod subsections_in_use;
 mod symbol_flags;
 mod treatment;
 
