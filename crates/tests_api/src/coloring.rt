@@ -6,7 +6,7 @@ use std::io;
 use std::io::Write;
 use std::test::Fail;
 use wasmprinter::Error;
-use wasmprinter::output_laws::colors_add_sequences_alone;
+use wasmprinter::printed_text_laws::colors_add_sequences_alone;
 use wasmprinter::print::{Ansi, Color, ColorSpec, NoColor, PrintTermcolor, WriteColor};
 use wasmprinter_samples::{EMPTY_TEXT, PREAMBLE};
 

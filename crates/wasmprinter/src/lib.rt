@@ -17,8 +17,8 @@ mod file_printing;
 mod file_source;
 mod offsets_and_lines;
 mod operator_lines;
-pub mod output_laws;
 mod plain_text_printer;
+pub mod printed_text_laws;
 mod string_printing;
 
 pub use config::Config;
