@@ -15,15 +15,15 @@ mod ansi_text_printer;
 mod config;
 mod file_printing;
 mod file_source;
+mod find_operator_line;
 mod offsets_and_lines;
-mod operator_lines;
 mod plain_text_printer;
 pub mod printed_text_laws;
 mod string_printing;
 
 pub use config::Config;
 pub use file_printing::print_file;
-pub use operator_lines::place_of;
+pub use find_operator_line::place_of;
 pub use print::{Print, PrintFmtWrite, PrintIoWrite, PrintTermcolor, PrintText};
 pub use file_source::Source;
 pub use string_printing::print_bytes;

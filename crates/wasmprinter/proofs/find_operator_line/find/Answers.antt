@@ -2,7 +2,7 @@
 use Rattle.std.proofs.Common.{sym, ap, ◌∙◌}
 use Rattle.wasmprinter.specs.Found.{place_at, text_lines}
 use Rattle.wasmprinter.proofs.FoundLines.{no_operator, no_line, its_line}
-use Rattle.wasmprinter.proofs.operator_lines.find.Goals as goal
+use Rattle.wasmprinter.proofs.find_operator_line.find.Goals as goal
 
 pub returns-in_err-place : goal.returns-in_err-place
 returns-in_err-place c =

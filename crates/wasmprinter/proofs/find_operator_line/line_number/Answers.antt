@@ -1,6 +1,6 @@
 use Rattle.std.proofs.Common.{◌∙◌, sym}
 use Rattle.wasmprinter.proofs.FindingSteps.{line-first, line-later}
-use Rattle.wasmprinter.proofs.operator_lines.line_number.Goals as goal
+use Rattle.wasmprinter.proofs.find_operator_line.line_number.Goals as goal
 
 pub returns-then-has_place : goal.returns-then-has_place
 returns-then-has_place c =

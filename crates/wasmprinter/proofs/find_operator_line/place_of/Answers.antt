@@ -1,6 +1,6 @@
 use Rattle.wasmprinter.specs.Found.{text_lines}
 use Rattle.wasmprinter.proofs.FoundLines.{names, finds}
-use Rattle.wasmprinter.proofs.operator_lines.place_of.Goals as goal
+use Rattle.wasmprinter.proofs.find_operator_line.place_of.Goals as goal
 
 pub returns-clause-at : goal.returns-clause-at
 returns-clause-at c =

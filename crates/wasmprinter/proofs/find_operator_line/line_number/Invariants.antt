@@ -1,6 +1,6 @@
 use Rattle.std.proofs.Common.{◌≡◌, map, drop}
 use Rattle.wasmprinter_spec.specs.Lines.{line_from}
-use Rattle.wasmprinter.proofs.operator_lines.line_number.Given as goal
+use Rattle.wasmprinter.proofs.find_operator_line.line_number.Given as goal
 
 abbrev pub invariant-loop-number : goal.invariant-loop-number
 invariant-loop-number l =
