@@ -2,7 +2,7 @@
 //! proves. The laws contain no code of the printer: they relate the grammar, the layout and the reader of text.
 //!
 //! - `round_trip`: printed text reads back as the module that the bytes encode.
-//! - `lexical`: quoted strings, floats, and lists of calls with one text.
+//! - `literals_read_back`: quoted strings, floats, and lists of calls with one text.
 //! - `line_places`: the lines of a text and their places in the module.
 //! - `folded_trees`: folding and unfolding lists of operators.
 //! - `colors`: colors add only ANSI escape sequences.
@@ -10,8 +10,8 @@
 
 mod colors;
 mod folded_trees;
-mod lexical;
 mod line_places;
+mod literals_read_back;
 mod round_trip;
 
 pub use colors::{
@@ -23,7 +23,7 @@ pub use folded_trees::{
     folding_loses_nothing, nested_operators_are_folded, nested_operators_have_trees,
     operands_are_the_shortest_run, trees_say_their_lists,
 };
-pub use lexical::{
+pub use literals_read_back::{
     alike_calls_have_one_text, float_text_reads, floats_are_exact, quoted_bytes_read,
     quoted_text_reads,
 };

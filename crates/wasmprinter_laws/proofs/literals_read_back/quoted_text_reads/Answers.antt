@@ -3,7 +3,7 @@ use Rattle.std.proofs.lemmas.Str.{encodes-chars, scalars-chars}
 use Rattle.wasmprinter_spec.specs.Quoted.{quoted_text}
 use Rattle.wasmprinter_spec.specs.Token.{tokens, string, lex}
 use Rattle.wasmprinter_laws.proofs.Tokens.Quotes.{text_lexes}
-use Rattle.wasmprinter_laws.proofs.lexical.quoted_text_reads.Goals as goal
+use Rattle.wasmprinter_laws.proofs.literals_read_back.quoted_text_reads.Goals as goal
 
 pub returns : goal.returns
 unfolding lex

@@ -6,7 +6,7 @@ use Rattle.wasmprinter_spec.specs.FloatText.{float_calls}
 use Rattle.wasmprinter_spec.specs.Laws.{FloatReads}
 use Rattle.wasmprinter_laws.proofs.Tokens.Floats.{float_text-reads}
 use Rattle.wasmprinter_laws.proofs.Tokens.FloatPieces.{float_lexes}
-use Rattle.wasmprinter_laws.proofs.lexical.float_text_reads.Goals as goal
+use Rattle.wasmprinter_laws.proofs.literals_read_back.float_text_reads.Goals as goal
 
 reads : (w : Width) → IsWidth w → (bits : ℕ) → bits < 2 * sign_bit w → FloatReads w bits
 unfolding lex
