@@ -2,10 +2,10 @@
 
 mod builder;
 mod candidates;
-mod last_node;
+mod split_last_node;
 
 pub use builder::Builder;
-pub use last_node::{Last, last_group};
+pub use split_last_node::{Last, last_group};
 
 /// The text of a node before the nodes that it holds.
 #[derive(Clone, Copy, Debug, PartialEq, Eq)]
