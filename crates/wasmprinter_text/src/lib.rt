@@ -16,6 +16,6 @@ pub mod lines;
 pub mod numbers;
 pub mod parens_and_words;
 pub mod signature;
+pub mod single_values;
 pub mod strings;
 pub mod types;
-pub mod value_printing;
