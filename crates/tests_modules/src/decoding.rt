@@ -8,7 +8,7 @@ use wasmprinter::wasm::{
     BlockType, Body, Catch, Immediates, Module, Opcode, Operator, OperatorsReader, ValType, decode,
 };
 use wasmprinter_decoder::{BodyParts, Export, ExternKind, Fields, LocalEntry, TypeGroup};
-use wasmprinter_ops::opcode::Listed;
+use wasmprinter_ops::opcodes_and_shapes::Listed;
 use wasmprinter_samples::parts::Part::Bytes;
 use wasmprinter_samples::parts::{Parts, build};
 use wasmprinter_samples::{CONTROL, EVERYTHING, PREAMBLE};

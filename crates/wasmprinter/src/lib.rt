@@ -50,7 +50,7 @@ pub mod wasm {
     pub use wasmprinter_ops::blocks::{BlockType, Catch, Catches, Targets};
     pub use wasmprinter_ops::expression::OperatorsReader;
     pub use wasmprinter_ops::mem_arg::MemArg;
-    pub use wasmprinter_ops::opcode::Opcode;
+    pub use wasmprinter_ops::opcodes_and_shapes::Opcode;
     pub use wasmprinter_ops::operator::{Immediates, Operator};
     pub use wasmprinter_ops::{HeapType, RefType, ValType, ValTypes};
 }

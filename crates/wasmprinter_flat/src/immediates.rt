@@ -21,7 +21,7 @@ use crate::memory_immediates::write_mem_arg;
 use crate::type_immediates::{write_cast, write_heap, write_ref, write_select};
 use crate::vector_immediates::{write_lane, write_lanes, write_vector};
 use wasmprinter_ops::mem_arg::MemArg;
-use wasmprinter_ops::opcode::{Shape, Space};
+use wasmprinter_ops::opcodes_and_shapes::{Shape, Space};
 use wasmprinter_ops::operator::Immediates;
 use wasmprinter_ops::{HeapType, RefType};
 use wasmprinter_print::Output;

@@ -15,7 +15,7 @@ use crate::arities::callee_types::CalleeTypes;
 use crate::arities::counts::{Counts, NOTHING};
 use crate::arities::label_arities::LabelCounts;
 use crate::arities::resolve_arity::counts_by_arity;
-use wasmprinter_ops::opcode::Listed;
+use wasmprinter_ops::opcodes_and_shapes::Listed;
 use wasmprinter_ops::operator::Operator;
 
 /// Returns the number of operands that an operator takes and of results that it gives. `labels` are those open

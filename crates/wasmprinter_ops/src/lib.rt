@@ -9,8 +9,8 @@ pub mod expression;
 mod fixed_bytes;
 pub mod mem_arg;
 mod nesting;
-pub mod opcode;
 mod opcode_tables;
+pub mod opcodes_and_shapes;
 pub mod operator;
 mod val_types;
 

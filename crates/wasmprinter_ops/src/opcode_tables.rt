@@ -11,7 +11,7 @@ pub(crate) use self::bulk::BULK;
 pub(crate) use self::gc::GC;
 pub(crate) use self::one_byte::{ONE_BYTE, ROLES};
 pub(crate) use self::vectors::VECTORS;
-use crate::opcode::{Arity, Shape};
+use crate::opcodes_and_shapes::{Arity, Shape};
 
 /// The word of an opcode, the shape of its immediates, and its arity.
 pub(crate) type Entry = (&'static str, Shape, Arity);

@@ -13,7 +13,7 @@ use crate::arities::callee_types::CalleeTypes;
 use std::alloc::{AllocError, Global};
 use std::marker::Model;
 use wasmprinter_ops::blocks::BlockType;
-use wasmprinter_ops::opcode::{Opcode, Role};
+use wasmprinter_ops::opcodes_and_shapes::{Opcode, Role};
 use wasmprinter_ops::operator::{Immediates, Operator};
 
 /// The opcode of `loop`.

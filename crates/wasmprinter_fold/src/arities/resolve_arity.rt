@@ -15,7 +15,7 @@ use crate::arities::named::{
     block_gives_in, cast_label_in, count_in, field_count_named, function_named, index_in,
     last_label_in, tag_named, type_named,
 };
-use wasmprinter_ops::opcode::Arity;
+use wasmprinter_ops::opcodes_and_shapes::Arity;
 use wasmprinter_ops::operator::Immediates;
 
 /// Returns the operands and results of an operator with the arity, or `None` if the item that it refers to is

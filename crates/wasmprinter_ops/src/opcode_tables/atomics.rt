@@ -1,5 +1,5 @@
 //! Opcodes with the prefix FE: atomic memory accesses.
-use crate::opcode::{Arity, Shape};
+use crate::opcodes_and_shapes::{Arity, Shape};
 use crate::opcode_tables::Entry;
 
 /// The opcodes with the prefix FE, by their numbers.

@@ -1,5 +1,5 @@
 //! Opcodes with the prefix FC: saturating truncation, bulk operators on memories and tables, wide arithmetic.
-use crate::opcode::{Arity, Shape, Space};
+use crate::opcodes_and_shapes::{Arity, Shape, Space};
 use crate::opcode_tables::Entry;
 
 /// The opcodes with the prefix FC, by their numbers.

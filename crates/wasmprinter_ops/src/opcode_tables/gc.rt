@@ -1,5 +1,5 @@
 //! Opcodes with the prefix FB: structures, arrays, casts, references.
-use crate::opcode::{Arity, Shape, Space};
+use crate::opcodes_and_shapes::{Arity, Shape, Space};
 use crate::opcode_tables::Entry;
 
 /// The opcodes with the prefix FB, by their numbers.

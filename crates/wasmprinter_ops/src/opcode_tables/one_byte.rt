@@ -1,5 +1,5 @@
 //! Opcodes of one byte.
-use crate::opcode::{Arity, Role, Shape, Space};
+use crate::opcodes_and_shapes::{Arity, Role, Shape, Space};
 use crate::opcode_tables::Entry;
 
 /// The opcodes without a prefix, by their numbers.

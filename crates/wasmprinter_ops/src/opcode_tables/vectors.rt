@@ -1,5 +1,5 @@
 //! Opcodes with the prefix FD: vectors.
-use crate::opcode::{Arity, Shape};
+use crate::opcodes_and_shapes::{Arity, Shape};
 use crate::opcode_tables::Entry;
 
 /// The opcodes with the prefix FD, by their numbers.

@@ -2,12 +2,12 @@ use Rattle.std.proofs.Common.{◌≡◌, ℕ, List, map, sym, ap, ◌∙◌, Opt
 use Rattle.std.specs.Borrow.{Bor}
 use Rattle.std.proofs.lemmas.List.{get_or-map}
 use Rattle.wasmprinter_spec.specs.Operator.{opcode}
-use Rattle.wasmprinter_ops.specs.declared.opcode.Shape.{Shape}
-use Rattle.wasmprinter_ops.specs.declared.opcode.Arity.{Arity}
+use Rattle.wasmprinter_ops.specs.declared.opcodes_and_shapes.Shape.{Shape}
+use Rattle.wasmprinter_ops.specs.declared.opcodes_and_shapes.Arity.{Arity}
 use Rattle.wasmprinter_ops.specs.Shapes.{entry_view}
 use Rattle.wasmprinter_ops.specs.ByNumber.{entry_of}
 use Rattle.wasmprinter_ops.proofs.Dense.{entry_within, same_length_lt, same_length_le, entry_past}
-use Rattle.wasmprinter_ops.proofs.opcode.Opcode.entry.Goals as goal
+use Rattle.wasmprinter_ops.proofs.opcodes_and_shapes.Opcode.entry.Goals as goal
 
 pub returns-in-Some : goal.returns-in-Some
 returns-in-Some c =

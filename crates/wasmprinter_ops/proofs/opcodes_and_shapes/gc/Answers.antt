@@ -1,7 +1,7 @@
 use Rattle.std.proofs.Common.{refl, ◌∙◌}
 use Rattle.wasmprinter_spec.specs.Table.{table}
 use Rattle.wasmprinter_ops.proofs.Prefixed.{entries_of_prefix}
-use Rattle.wasmprinter_ops.proofs.opcode.gc.Goals as goal
+use Rattle.wasmprinter_ops.proofs.opcodes_and_shapes.gc.Goals as goal
 
 pub returns : goal.returns
 unfolding table

@@ -1,8 +1,8 @@
 use Rattle.std.proofs.Common.{refl, ◌∙◌}
 use Rattle.wasmprinter_spec.specs.Table.{table}
 use Rattle.wasmprinter_ops.proofs.Prefixed.{entries_of_prefix}
-use Rattle.wasmprinter_ops.proofs.opcode.one_byte.Goals as goal
+use Rattle.wasmprinter_ops.proofs.opcodes_and_shapes.vectors.Goals as goal
 
 pub returns : goal.returns
 unfolding table
-returns c = refl ∙ entries_of_prefix 0
+returns c = refl ∙ entries_of_prefix 0xfd

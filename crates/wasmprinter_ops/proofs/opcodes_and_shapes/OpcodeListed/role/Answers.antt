@@ -3,11 +3,11 @@ use Rattle.std.proofs.lemmas.List.{get_or-map}
 use Rattle.wasmprinter_spec.specs.Operator.{opcode}
 use Rattle.wasmprinter_spec.specs.Row.{Plain}
 use Rattle.wasmprinter_spec.specs.Table.{role_of}
-use Rattle.wasmprinter_ops.specs.declared.opcode.Role.{Role}
-use Rattle.wasmprinter_ops.specs.declared.opcode.Role.TheVariants as roles
+use Rattle.wasmprinter_ops.specs.declared.opcodes_and_shapes.Role.{Role}
+use Rattle.wasmprinter_ops.specs.declared.opcodes_and_shapes.Role.TheVariants as roles
 use Rattle.wasmprinter_ops.specs.Shapes.{role_view}
 use Rattle.wasmprinter_ops.proofs.Dense.{role_within, same_length_lt, same_length_le, role_past}
-use Rattle.wasmprinter_ops.proofs.opcode.OpcodeListed.role.Goals as goal
+use Rattle.wasmprinter_ops.proofs.opcodes_and_shapes.OpcodeListed.role.Goals as goal
 
 pub returns-in-Some : goal.returns-in-Some
 returns-in-Some c =
