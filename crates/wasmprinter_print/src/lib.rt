@@ -4,8 +4,8 @@
 
 mod fmt_write;
 mod halt;
+mod layout_output;
 mod options;
-mod output;
 mod print;
 mod printer;
 pub mod sequences;
@@ -15,7 +15,7 @@ mod text_only_printer;
 pub use fmt_write::{PrintFmtWrite, WriteText};
 pub use halt::Halt;
 pub use options::PrintOptions;
-pub use output::{FoldingOutput, Output};
+pub use layout_output::{FoldingOutput, Output};
 pub use print::Print;
 pub use printer::{LayoutOptions, Printer};
 pub use style::Style;
