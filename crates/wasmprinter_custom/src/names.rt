@@ -11,7 +11,7 @@ ghost use Rattle.wasmprinter_custom.specs.Labels.{labels_in, Ascend, AreOfLabels
 ghost use Rattle.wasmprinter_custom.specs.LabelViews.{label_view};
 
 use crate::name_subsection_ids;
-use crate::subsections_in_use::{SUBSECTIONS, marks_of};
+use crate::subsections_in_use::{SUBSECTIONS, used_subsections};
 use crate::name_position_guesses::Guesses;
 use crate::search::find;
 use crate::sorted_names_builder::SortedNames;
@@ -184,7 +184,7 @@ impl<'a> NamesBuilder<'a> {
     {
         let entries = self.names.into_list(alloc)?;
         let guesses = Guesses::new(alloc, &entries)?;
-        let named = marks_of(&entries);
+        let named = used_subsections(&entries);
         Ok(Names {
             entries,
             guesses,

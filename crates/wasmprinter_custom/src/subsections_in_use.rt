@@ -7,7 +7,7 @@ use crate::names::{Key, StoredName};
 pub(crate) const SUBSECTIONS: usize = 256;
 
 /// Returns for each subsection, by its id, whether one of the items belongs to it.
-pub(crate) fn marks_of(entries: &[(Key, StoredName<'_>)]) -> [bool; SUBSECTIONS]
+pub(crate) fn used_subsections(entries: &[(Key, StoredName<'_>)]) -> [bool; SUBSECTIONS]
     ensures { AreMarked entries.now result }
 {
     let mut marks = [false; SUBSECTIONS];

@@ -9,7 +9,7 @@ invariant_of-result c =
     let items = c.in_ok-entries.entries.items in (
       c.in_ok-entries.ensures.ascend,
       same_of_labels c.args.self.names items c.in_ok-entries.ensures.all c.args.self.of_labels,
-      subst (λ es. AreMarked es c.marks_of-named.result) c.deref-2.ensures.value c.marks_of-named.ensures,
+      subst (λ es. AreMarked es c.used_subsections-named.result) c.deref-2.ensures.value c.used_subsections-named.ensures,
     )
 
 pub returns-clause-names : goal.returns-clause-names
