@@ -9,7 +9,7 @@ use Rattle.std.specs.Prelude.{replicate, Bool, true, false, nat_eq, ◌&&◌, �
 use Rattle.std.specs.List.{Any, list_any}
 use Rattle.std.specs.BTreeMap.{is_at}
 use Rattle.wasmprinter_custom.specs.Views.{key_cmp, stored_view, item_view, name_at}
-use Rattle.wasmprinter_custom.specs.Lookups.{AreMarked}
+use Rattle.wasmprinter_custom.specs.Lookups.{AreUsed}
 use Rattle.wasmprinter_custom.specs.declared.names.Key.{Key}
 use Rattle.wasmprinter_custom.specs.declared.names.StoredName.{StoredName}
 use Rattle.wasmprinter_custom.proofs.Adding.{same_key, name_at-lookup}
@@ -49,7 +49,7 @@ marks_more es marks i n e within at is fits before s =
         other = grind (arith, common_steps, get_or-set_other)
 
 -- After all entries, a subsection is marked exactly if an entry belongs to it.
-pub marked : (es : List (Key × StoredName)) (marks : List Bool) → Marks es (length es) marks → AreMarked es marks
+pub marked : (es : List (Key × StoredName)) (marks : List Bool) → Marks es (length es) marks → AreUsed es marks
 marked es marks h s = (λ t. of_subsection (Any-from_list_any (is_of s) es (sym all ∙ t)), λ some. all ∙ list_any-from_Any (is_of s) es (passes some))
   where
     all : get_or marks s false ≡ list_any (is_of s) es
@@ -63,7 +63,7 @@ marked es marks h s = (λ t. of_subsection (Any-from_list_any (is_of s) es (sym 
 
 -- An item of a subsection that is not marked has no name.
 pub none_unmarked : (es : List (Key × StoredName)) (marks : List Bool) (q : Key)
-    → AreMarked es marks → get_or marks q.subsection false ≡ false
+    → AreUsed es marks → get_or marks q.subsection false ≡ false
     → None ≡ name_at (map item_view es) q.subsection q.outer q.index
 none_unmarked es marks q marked none =
     let passes = none_by es q (λ k d low. same_key q (get_or es k d).0

@@ -34,5 +34,5 @@ abbrev pub AreDisjoint : List (Key × StoredName) → List (Key × StoredName) �
 AreDisjoint es fs = (q : Key) → IsSome (stored_at es q) → stored_at fs q ≡ None
 
 -- A subsection is marked exactly if an entry belongs to it.
-abbrev pub AreMarked : List (Key × StoredName) → List Bool → Type 0
-AreMarked entries marks = (s : ℕ) → (slice_index_or marks s false ≡ true) ↔ Any (λ e. e.0.subsection ≡ s) entries
+abbrev pub AreUsed : List (Key × StoredName) → List Bool → Type 0
+AreUsed entries marks = (s : ℕ) → (slice_index_or marks s false ≡ true) ↔ Any (λ e. e.0.subsection ≡ s) entries

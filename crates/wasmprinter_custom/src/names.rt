@@ -6,7 +6,7 @@ ghost use Rattle.wasmprinter_spec.specs.Names.Section.{Entry, entry_of, module_s
 ghost use Rattle.wasmprinter_spec.specs.Names.Content.{is_among, content, name_of};
 ghost use Rattle.wasmprinter_custom.specs.Spaces.{id_of, outer_of};
 ghost use Rattle.wasmprinter_custom.specs.Views.{content_or, stored_view, item_view, name_view, NamedItem, items_view, name_at};
-ghost use Rattle.wasmprinter_custom.specs.Lookups.{Ascends, AreMarked};
+ghost use Rattle.wasmprinter_custom.specs.Lookups.{Ascends, AreUsed};
 ghost use Rattle.wasmprinter_custom.specs.Labels.{labels_in, Ascend, AreOfLabels};
 ghost use Rattle.wasmprinter_custom.specs.LabelViews.{label_view};
 
@@ -209,7 +209,7 @@ impl<'a> Model for Names<'a> {
 
     ghost view = { λ n. map item_view n.entries.items };
 
-    ghost invariant = { λ n. Ascends n.entries.items × AreOfLabels (map item_view n.entries.items) × AreMarked n.entries.items n.named };
+    ghost invariant = { λ n. Ascends n.entries.items × AreOfLabels (map item_view n.entries.items) × AreUsed n.entries.items n.named };
 }
 
 impl Names<'_> {

@@ -1,5 +1,5 @@
 //! Which subsections of a name section have given names to items.
-ghost use Rattle.wasmprinter_custom.specs.Lookups.{AreMarked};
+ghost use Rattle.wasmprinter_custom.specs.Lookups.{AreUsed};
 
 use crate::names::{Key, StoredName};
 
@@ -8,7 +8,7 @@ pub(crate) const SUBSECTIONS: usize = 256;
 
 /// Returns for each subsection, by its id, whether one of the items belongs to it.
 pub(crate) fn used_subsections(entries: &[(Key, StoredName<'_>)]) -> [bool; SUBSECTIONS]
-    ensures { AreMarked entries.now result }
+    ensures { AreUsed entries.now result }
 {
     let mut marks = [false; SUBSECTIONS];
     for (key, _) in entries {

@@ -1,5 +1,5 @@
 use Rattle.std.proofs.Common.{sym, ◌∙◌, subst, true≢false}
-use Rattle.wasmprinter_custom.specs.Lookups.{AreMarked}
+use Rattle.wasmprinter_custom.specs.Lookups.{AreUsed}
 use Rattle.wasmprinter_custom.proofs.Adding.{same_name_at, same_of_labels}
 use Rattle.wasmprinter_custom.proofs.Lookups.{empty_where_none}
 use Rattle.wasmprinter_custom.proofs.names.NamesBuilder.finish.Goals as goal
@@ -9,7 +9,7 @@ invariant_of-result c =
     let items = c.in_ok-entries.entries.items in (
       c.in_ok-entries.ensures.ascend,
       same_of_labels c.args.self.names items c.in_ok-entries.ensures.all c.args.self.of_labels,
-      subst (λ es. AreMarked es c.used_subsections-named.result) c.deref-2.ensures.value c.used_subsections-named.ensures,
+      subst (λ es. AreUsed es c.used_subsections-named.result) c.deref-2.ensures.value c.used_subsections-named.ensures,
     )
 
 pub returns-clause-names : goal.returns-clause-names
