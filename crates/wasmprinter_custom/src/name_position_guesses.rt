@@ -6,7 +6,7 @@ use std::alloc::{AllocError, Global};
 
 /// The positions of the items of a subsection, by the function or type in which they are numbered.
 #[derive(Drop)]
-struct Beginnings {
+struct FirstPositions {
     /// The first function or type that has items.
     first: u64,
     /// The start of its items, of those of the next function or type, and so on. A function or type without items has
@@ -16,7 +16,7 @@ struct Beginnings {
     end: usize,
 }
 
-impl Beginnings {
+impl FirstPositions {
     /// Adds an item after the items so far. `limit` is the number of names, and at most that many functions or types get
     /// a start of their own: a module may name a local of its last function only, and memory must grow with the names,
     /// not with the functions.
@@ -64,7 +64,7 @@ impl Beginnings {
 /// The guessed positions of items, by subsection.
 #[derive(Drop)]
 pub struct Guesses {
-    subsections: Vec<Beginnings>,
+    subsections: Vec<FirstPositions>,
 }
 
 impl Guesses {
@@ -97,7 +97,7 @@ impl Guesses {
         limit: usize,
     ) -> Result<(), AllocError> {
         for _ in self.subsections.len()..usize::from(key.subsection) + 1 {
-            self.subsections.push(Beginnings {
+            self.subsections.push(FirstPositions {
                 first: key.outer,
                 begins: Vec::new(alloc),
                 end: position,

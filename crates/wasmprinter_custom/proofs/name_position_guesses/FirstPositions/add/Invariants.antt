@@ -1,5 +1,5 @@
 use Rattle.std.proofs.Common.{◌≡◌, ◌≤◌, ◌+◌, length, max}
-use Rattle.wasmprinter_custom.proofs.name_position_guesses.Beginnings.add.Given as goal
+use Rattle.wasmprinter_custom.proofs.name_position_guesses.FirstPositions.add.Given as goal
 
 abbrev pub invariant-loop : goal.invariant-loop
 invariant-loop l = record {
