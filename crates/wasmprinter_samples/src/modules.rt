@@ -6,6 +6,7 @@ pub mod named;
 pub mod operators;
 pub mod sections;
 pub mod whole;
+pub mod with_calls;
 
 use crate::{IDENTITY, MINUS_ONE, PREAMBLE};
 use control::{
