@@ -7,7 +7,7 @@ use std::alloc::{AllocError, Global};
 use std::test::Fail;
 use wasmprinter_bytes::cursor::Cursor;
 use wasmprinter_bytes::lazy_items::Items;
-use wasmprinter_bytes::lists::Decode;
+use wasmprinter_bytes::decode_traits::Decode;
 use wasmprinter_bytes::{Error, Malformed};
 use wasmprinter_ops::blocks::{BlockType, Catch};
 use wasmprinter_ops::composite_types::{CompositeType, FieldType, StorageType, SubType, SubTypes};

@@ -6,7 +6,7 @@ ghost use Rattle.wasmprinter_bytes.specs.Lists.{vec_at};
 
 use crate::Malformed;
 use crate::cursor::Cursor;
-use crate::lists::Decode;
+use crate::decode_traits::Decode;
 use std::alloc::AllocError;
 use std::fmt;
 use std::marker::{Model, PhantomData};

@@ -3,9 +3,9 @@
 #![tactic(auto)]
 
 pub mod cursor;
+pub mod decode_traits;
 pub mod lazy_items;
 mod library_error;
-pub mod lists;
 mod malformed;
 
 pub use library_error::Error;

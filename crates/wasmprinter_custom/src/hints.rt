@@ -11,7 +11,7 @@ use std::marker::Model;
 use wasmprinter_bytes::Malformed;
 use wasmprinter_bytes::cursor::Cursor;
 use wasmprinter_bytes::lazy_items::{Items, no_items, read_items};
-use wasmprinter_bytes::lists::Decode;
+use wasmprinter_bytes::decode_traits::Decode;
 
 /// The name of sections with branch hints. If there are several, the last one counts.
 pub(crate) const HINT_SECTION: &str = "metadata.code.branch_hint";

@@ -16,7 +16,7 @@ use std::alloc::Global;
 use std::marker::Model;
 use wasmprinter_bytes::cursor::Cursor;
 use wasmprinter_bytes::lazy_items::{Items, read_items};
-use wasmprinter_bytes::lists::Decode;
+use wasmprinter_bytes::decode_traits::Decode;
 use wasmprinter_bytes::{Error, Malformed};
 use wasmprinter_ops::expression::{Expression, OperatorsReader};
 use wasmprinter_ops::{ValType, read_type};

@@ -13,7 +13,7 @@ use crate::byte_checks::expect_end;
 use std::alloc::Global;
 use std::marker::Model;
 use wasmprinter_bytes::cursor::Cursor;
-use wasmprinter_bytes::lists::{GrownIn, read_grown_list};
+use wasmprinter_bytes::decode_traits::{GrownIn, read_grown_list};
 use wasmprinter_bytes::{Error, Malformed};
 use wasmprinter_ops::expression::Expression;
 

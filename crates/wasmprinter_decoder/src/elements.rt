@@ -16,7 +16,7 @@ use std::alloc::Global;
 use std::marker::Model;
 use wasmprinter_bytes::cursor::Cursor;
 use wasmprinter_bytes::lazy_items::{Items, read_items};
-use wasmprinter_bytes::lists::{GrownIn, read_grown_list};
+use wasmprinter_bytes::decode_traits::{GrownIn, read_grown_list};
 use wasmprinter_bytes::{Error, Malformed};
 use wasmprinter_ops::expression::Expression;
 use wasmprinter_ops::{HeapType, RefType, read_ref_type};

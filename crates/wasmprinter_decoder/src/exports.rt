@@ -11,7 +11,7 @@ use crate::byte_checks::expect_end;
 use std::alloc::Global;
 use std::marker::Model;
 use wasmprinter_bytes::cursor::Cursor;
-use wasmprinter_bytes::lists::{DecodeIn, read_list};
+use wasmprinter_bytes::decode_traits::{DecodeIn, read_list};
 use wasmprinter_bytes::{Error, Malformed};
 
 /// The kinds of items that a module can import and export (section 2.3, "External Types").

@@ -13,7 +13,7 @@ use std::alloc::Global as Allocator;
 use std::marker::Model;
 use wasmprinter_bytes::Error;
 use wasmprinter_bytes::cursor::Cursor;
-use wasmprinter_bytes::lists::{GrownIn, read_grown_list};
+use wasmprinter_bytes::decode_traits::{GrownIn, read_grown_list};
 use wasmprinter_ops::expression::Expression;
 
 /// A global that the module defines, with the place of its entry (section 2.5, "Globals").

@@ -16,7 +16,7 @@ use crate::tags::read_tag_type;
 use std::alloc::Global;
 use std::marker::Model;
 use wasmprinter_bytes::cursor::Cursor;
-use wasmprinter_bytes::lists::{DecodeIn, read_list};
+use wasmprinter_bytes::decode_traits::{DecodeIn, read_list};
 use wasmprinter_bytes::{Error, Malformed};
 
 /// The type of an import (section 2.3, "External Types").

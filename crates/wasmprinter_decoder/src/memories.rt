@@ -13,7 +13,7 @@ use crate::limits::{Limits, MAX_BIT, WIDE_BIT};
 use std::alloc::Global;
 use std::marker::Model;
 use wasmprinter_bytes::cursor::Cursor;
-use wasmprinter_bytes::lists::{DecodeIn, read_list};
+use wasmprinter_bytes::decode_traits::{DecodeIn, read_list};
 use wasmprinter_bytes::{Error, Malformed};
 
 /// The flags are below this.

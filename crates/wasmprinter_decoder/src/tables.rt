@@ -17,7 +17,7 @@ use std::alloc::Global;
 use std::marker::Model;
 use wasmprinter_bytes::Error;
 use wasmprinter_bytes::cursor::Cursor;
-use wasmprinter_bytes::lists::{GrownIn, read_grown_list};
+use wasmprinter_bytes::decode_traits::{GrownIn, read_grown_list};
 use wasmprinter_ops::expression::Expression;
 
 /// The byte before a table with an initialiser.

@@ -10,7 +10,7 @@ use crate::byte_checks::{expect_end, read_only};
 use std::alloc::Global;
 use std::marker::Model;
 use wasmprinter_bytes::cursor::Cursor;
-use wasmprinter_bytes::lists::{DecodeIn, read_list};
+use wasmprinter_bytes::decode_traits::{DecodeIn, read_list};
 use wasmprinter_bytes::{Error, Malformed};
 
 /// The byte before the type index of a tag: the tag is that of an exception.

@@ -11,7 +11,7 @@ use crate::byte_checks::expect_end;
 use std::alloc::{AllocError, Global};
 use std::marker::Model;
 use wasmprinter_bytes::cursor::Cursor;
-use wasmprinter_bytes::lists::{DecodeIn, read_list};
+use wasmprinter_bytes::decode_traits::{DecodeIn, read_list};
 use wasmprinter_bytes::{Error, Malformed};
 use wasmprinter_ops::composite_types::{CompositeType, FuncType, SubType, SubTypes};
 

@@ -13,7 +13,7 @@ use std::alloc::Global;
 use std::marker::Model;
 use wasmprinter_bytes::Error;
 use wasmprinter_bytes::cursor::Cursor;
-use wasmprinter_bytes::lists::GrownIn;
+use wasmprinter_bytes::decode_traits::GrownIn;
 
 /// An iterator over the remaining operators, each with its place.
 #[derive(Drop)]

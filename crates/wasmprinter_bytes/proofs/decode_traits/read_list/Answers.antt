@@ -1,7 +1,7 @@
 use Rattle.std.proofs.Common.{rules, ◌<◌, arith, inr}
 use Rattle.std.proofs.lemmas.Result.{err_from_is_err_and}
 use Rattle.wasmprinter_bytes.proofs.Fronts.{front_more, first_stands}
-use Rattle.wasmprinter_bytes.proofs.lists.read_list.Goals as goal
+use Rattle.wasmprinter_bytes.proofs.decode_traits.read_list.Goals as goal
 
 pub loop-preserved : goal.loop-preserved
 loop-preserved g c = record {

@@ -2,7 +2,7 @@ use Rattle.std.proofs.Common.{rules, arith}
 use Rattle.std.proofs.lemmas.Result.{err_from_is_err_and}
 use Rattle.wasmprinter_bytes.proofs.Fronts.{front_more}
 use Rattle.wasmprinter_bytes.proofs.Grown.{list_fault, counted_some}
-use Rattle.wasmprinter_bytes.proofs.lists.read_grown_list.Goals as goal
+use Rattle.wasmprinter_bytes.proofs.decode_traits.read_grown_list.Goals as goal
 
 pub loop-preserved : goal.loop-preserved
 loop-preserved g c = record {
