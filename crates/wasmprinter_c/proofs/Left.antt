@@ -21,7 +21,7 @@ use Rattle.wasmprinter_c.specs.Over.{over}
 use Rattle.wasmprinter_c.specs.Copied.{copied_meaning}
 use Rattle.wasmprinter_c.specs.Events.{events}
 use Rattle.wasmprinter_c.specs.Refused.{IsTooLong, HasBufferCause, IsBufferRefusal, IsWritten, LeavesBuffer}
-use Rattle.wasmprinter_c.specs.declared.buffer_printer.Copier.{Copier}
+use Rattle.wasmprinter_c.specs.declared.buffer_and_event_printer.Copier.{Copier}
 use Rattle.wasmprinter_c.proofs.Runs.{copying, HasCopied, IsFresh, run_copied, claims_never}
 
 -- ---- A printer to which nothing was printed before

@@ -4,7 +4,7 @@ use Rattle.std.specs.Prelude.{Bool, true, false, Some, None}
 use Rattle.std.specs.List.{filter}
 use Rattle.wasmprinter_spec.specs.Call.{Call, Style, Text, Newline, Line, Start, Claim, Literal, Name, Keyword, TypeName, Comment, Reset}
 use Rattle.wasmprinter_c.specs.Events.{event, style_kind, events, is_line}
-use Rattle.wasmprinter_c.specs.declared.buffer_printer.WasmprinterEvent.{WasmprinterEvent}
+use Rattle.wasmprinter_c.specs.declared.buffer_and_event_printer.WasmprinterEvent.{WasmprinterEvent}
 
 -- An event of a style is left out.
 without-style : (style : Style) (start : ℕ) (es : List WasmprinterEvent) → filter is_line (event (style_kind style) 0 start ∷ es) ≡ filter is_line es

@@ -20,8 +20,8 @@ use Rattle.wasmprinter_c.specs.Over.{over, over_from}
 use Rattle.wasmprinter_c.specs.Copied.{Grows, Records, CopiedAfter, copied_meaning}
 use Rattle.wasmprinter_c.specs.Printing.{request, buffers, HasEventsOver}
 use Rattle.wasmprinter_c.specs.Events.{call_events, events, line_start, line_starts}
-use Rattle.wasmprinter_c.specs.declared.buffer_printer.WasmprinterEvent.{WasmprinterEvent}
-use Rattle.wasmprinter_c.specs.declared.buffer_printer.Copier.{Copier}
+use Rattle.wasmprinter_c.specs.declared.buffer_and_event_printer.WasmprinterEvent.{WasmprinterEvent}
+use Rattle.wasmprinter_c.specs.declared.buffer_and_event_printer.Copier.{Copier}
 use Rattle.wasmprinter_c.proofs.Overs.{over_more}
 use Rattle.wasmprinter_c.proofs.Cuts.{lines-cut}
 use Rattle.wasmprinter_c.proofs.OnlyLines.{only-lines}

@@ -13,7 +13,7 @@ use Rattle.wasmprinter_c.specs.Over.{over}
 use Rattle.wasmprinter_c.specs.Copied.{copied_meaning}
 use Rattle.wasmprinter_c.specs.Events.{events}
 use Rattle.wasmprinter_c.specs.Messages.{message, with_place, with_number}
-use Rattle.wasmprinter_c.specs.declared.buffer_printer.Copier.{Copier}
+use Rattle.wasmprinter_c.specs.declared.buffer_and_event_printer.Copier.{Copier}
 use Rattle.wasmprinter_c.proofs.Runs.{HasCopied, IsFresh, run_copied}
 use Rattle.wasmprinter_c.proofs.Left.{broken_long}
 

@@ -4,8 +4,8 @@ use Rattle.wasmprinter_spec.specs.Call.{Call, Text, Newline, Line, Start, Claim,
 use Rattle.wasmprinter_spec.specs.Meaning.{Meaning}
 use Rattle.wasmprinter_c.specs.Over.{over_from}
 use Rattle.wasmprinter_c.specs.Events.{call_events}
-use Rattle.wasmprinter_c.specs.declared.buffer_printer.WasmprinterEvent.{WasmprinterEvent}
-use Rattle.wasmprinter_c.specs.declared.buffer_printer.Copier.{Copier}
+use Rattle.wasmprinter_c.specs.declared.buffer_and_event_printer.WasmprinterEvent.{WasmprinterEvent}
+use Rattle.wasmprinter_c.specs.declared.buffer_and_event_printer.Copier.{Copier}
 
 -- A text was written after the text so far: its first bytes, as many as fit. All its bytes were counted, and the text
 -- is not longer than the limit. The buffer and the table are the same objects.

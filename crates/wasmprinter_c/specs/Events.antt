@@ -3,7 +3,7 @@ use Rattle.std.specs.Prelude.{ℕ, ◌+◌, ◌==◌, List, [], ◌∷◌, ◌++
 use Rattle.std.specs.List.{filter}
 use Rattle.wasmprinter_spec.specs.Call.{Call, Style, Text, Newline, Line, Start, Claim, Literal, Name, Keyword, TypeName, Comment, Reset}
 use Rattle.wasmprinter_writers.specs.declared.line_iterator.LineStart.{LineStart}
-use Rattle.wasmprinter_c.specs.declared.buffer_printer.WasmprinterEvent.{WasmprinterEvent}
+use Rattle.wasmprinter_c.specs.declared.buffer_and_event_printer.WasmprinterEvent.{WasmprinterEvent}
 
 -- The number of the kind that selects this style. A line without a place has 0, a line with a place 1, and a custom
 -- section 8.

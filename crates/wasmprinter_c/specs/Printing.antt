@@ -7,7 +7,7 @@ use Rattle.wasmprinter.specs.Printed.{no_claims}
 use Rattle.wasmprinter.specs.Lined.{HasLinesAt}
 use Rattle.wasmprinter_c.specs.Over.{over}
 use Rattle.wasmprinter_c.specs.Events.{events, line_starts}
-use Rattle.wasmprinter_c.specs.declared.buffer_printer.WasmprinterEvent.{WasmprinterEvent}
+use Rattle.wasmprinter_c.specs.declared.buffer_and_event_printer.WasmprinterEvent.{WasmprinterEvent}
 
 -- The options that the bits of the flags choose, with this indent.
 abbrev pub options_of : ℕ → List ℕ → Options

@@ -14,12 +14,12 @@ ghost use Rattle.wasmprinter_c.specs.Refused.{number_of, detail_in, IsCopied, Is
 ghost use Rattle.wasmprinter_c.specs.Outcomes.{IsOutcome, outcome_with, DoesNothing};
 ghost use Rattle.wasmprinter_c.specs.Statuses.{option_status, library_version, library_revision};
 
-mod buffer_printer;
+mod buffer_and_event_printer;
 mod messages;
 mod status;
 
-use buffer_printer::Copier;
-pub use buffer_printer::WasmprinterEvent;
+use buffer_and_event_printer::Copier;
+pub use buffer_and_event_printer::WasmprinterEvent;
 use messages::describe;
 use status::{BAD_INDENT, PRINTED, UNKNOWN_OPTION, detail_of, status_of};
 use std::alloc::{AllocError, Global};

@@ -5,7 +5,7 @@ ghost use Rattle.wasmprinter_print.specs.MadeCalls.{MadeCalls, outcome};
 ghost use Rattle.wasmprinter_c.specs.Copied.{copied_meaning};
 ghost use Rattle.wasmprinter_c.specs.Messages.{message};
 
-use crate::buffer_printer::Copier;
+use crate::buffer_and_event_printer::Copier;
 use crate::status::{BAD_INDENT, PRINTED, UNKNOWN_OPTION};
 use wasmprinter::Error;
 use wasmprinter_print::Output;

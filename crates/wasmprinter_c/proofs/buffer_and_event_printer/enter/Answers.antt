@@ -1,6 +1,6 @@
 use Rattle.std.proofs.Common.{◌∷◌, [], arith}
 use Rattle.wasmprinter_c.proofs.Overs.{set_over, put_past}
-use Rattle.wasmprinter_c.proofs.buffer_printer.enter.Goals as goal
+use Rattle.wasmprinter_c.proofs.buffer_and_event_printer.enter.Goals as goal
 
 pub returns-then-index-table : goal.returns-then-index-table
 returns-then-index-table c = set_over c.args.index c.args.table.now c.args.entry

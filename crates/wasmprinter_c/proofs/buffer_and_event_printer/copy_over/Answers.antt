@@ -1,7 +1,7 @@
 -- The piece fits, is truncated, or starts after the end of the buffer.
 use Rattle.std.proofs.Common.{◌+◌, ◌-◌, length, refl, arith}
 use Rattle.wasmprinter_c.proofs.Overs.{put_fits, put_cut, put_past}
-use Rattle.wasmprinter_c.proofs.buffer_printer.copy_over.Goals as goal
+use Rattle.wasmprinter_c.proofs.buffer_and_event_printer.copy_over.Goals as goal
 
 pub returns-then-piece-room : goal.returns-then-piece-room
 returns-then-piece-room c =
