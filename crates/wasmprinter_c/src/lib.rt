@@ -15,12 +15,12 @@ ghost use Rattle.wasmprinter_c.specs.Outcomes.{IsOutcome, outcome_with, DoesNoth
 ghost use Rattle.wasmprinter_c.specs.Statuses.{option_status, library_version, library_revision};
 
 mod buffer_and_event_printer;
-mod messages;
 mod status;
+mod status_messages;
 
 use buffer_and_event_printer::Copier;
 pub use buffer_and_event_printer::WasmprinterEvent;
-use messages::describe;
+use status_messages::describe;
 use status::{BAD_INDENT, PRINTED, UNKNOWN_OPTION, detail_of, status_of};
 use std::alloc::{AllocError, Global};
 use wasmprinter::{Config, Error};

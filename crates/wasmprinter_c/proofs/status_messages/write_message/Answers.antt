@@ -1,4 +1,4 @@
-use Rattle.wasmprinter_c.proofs.messages.write_message.Goals as goal
+use Rattle.wasmprinter_c.proofs.status_messages.write_message.Goals as goal
 
 pub returns-in-1 : goal.returns-in-1
 returns-in-1 g c = rw c.in-1.is c.write_hexadecimal_between.ensures
