@@ -15,13 +15,13 @@ ghost use Rattle.wasmprinter_c.specs.Outcomes.{IsOutcome, outcome_with, DoesNoth
 ghost use Rattle.wasmprinter_c.specs.Statuses.{option_status, library_version, library_revision};
 
 mod buffer_and_event_printer;
-mod status;
 mod status_messages;
+mod status_of_error;
 
 use buffer_and_event_printer::Copier;
 pub use buffer_and_event_printer::WasmprinterEvent;
 use status_messages::describe;
-use status::{BAD_INDENT, PRINTED, UNKNOWN_OPTION, detail_of, status_of};
+use status_of_error::{BAD_INDENT, PRINTED, UNKNOWN_OPTION, detail_of, status_of};
 use std::alloc::{AllocError, Global};
 use wasmprinter::{Config, Error};
 use wasmprinter_decoder::is_component;

@@ -6,7 +6,7 @@ ghost use Rattle.wasmprinter_c.specs.Copied.{copied_meaning};
 ghost use Rattle.wasmprinter_c.specs.Messages.{message};
 
 use crate::buffer_and_event_printer::Copier;
-use crate::status::{BAD_INDENT, PRINTED, UNKNOWN_OPTION};
+use crate::status_of_error::{BAD_INDENT, PRINTED, UNKNOWN_OPTION};
 use wasmprinter::Error;
 use wasmprinter_print::Output;
 use wasmprinter_text::numbers::{write_decimal_between, write_hexadecimal_between};
