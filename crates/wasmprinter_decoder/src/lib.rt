@@ -2,7 +2,6 @@
 //! `decode`, and the decoded [`Module`] with its items.
 #![tactic(auto)]
 
-pub mod branch_hints;
 mod byte_checks;
 mod code;
 mod collect_names;
@@ -11,6 +10,7 @@ mod data_segments;
 mod decoder;
 mod elements;
 mod exports;
+pub mod find_branch_hints;
 mod flag_bits;
 mod function;
 mod functions;

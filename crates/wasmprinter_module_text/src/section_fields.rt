@@ -17,7 +17,7 @@ use crate::module_scope::Scope;
 use crate::single_field::{Field, write_each};
 use crate::start::write_start;
 use crate::types::write_type_groups;
-use wasmprinter_decoder::branch_hints::hints_of;
+use wasmprinter_decoder::find_branch_hints::hints_of;
 use wasmprinter_decoder::{ExternKind, Fields, Module, SectionKind};
 use wasmprinter_print::FoldingOutput;
 

@@ -11,7 +11,7 @@ ghost use Rattle.wasmprinter_fold.specs.Refused.{error_of_first};
 
 use wasmprinter_bytes::Error;
 use wasmprinter_custom::{FunctionHints, Hint, is_hint_section};
-use wasmprinter_decoder::branch_hints::hints_of;
+use wasmprinter_decoder::find_branch_hints::hints_of;
 use wasmprinter_decoder::{Body, CustomEntry, ExternKind, Fields, Module};
 use wasmprinter_ops::opcodes_and_shapes::{Listed, Role};
 

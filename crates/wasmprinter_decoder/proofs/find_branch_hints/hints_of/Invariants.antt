@@ -1,7 +1,7 @@
 -- The last hint section is the last among the rest or, if the rest has none, the one that was found.
 use Rattle.std.proofs.Common.{◌≡◌, drop, option_copied, option_map, codes, None}
 use Rattle.wasmprinter_spec.specs.Customs.Hints.{last_named}
-use Rattle.wasmprinter_decoder.proofs.branch_hints.hints_of.Given as goal
+use Rattle.wasmprinter_decoder.proofs.find_branch_hints.hints_of.Given as goal
 
 abbrev pub invariant-loop-entry : goal.invariant-loop-entry
 invariant-loop-entry l =
