@@ -1,5 +1,5 @@
 use Rattle.wasmprinter_decoder.proofs.Assembling.{within_alone, nothing_decoded}
-use Rattle.wasmprinter_decoder.proofs.decoder.decode.Goals as goal
+use Rattle.wasmprinter_decoder.proofs.decode_module.decode.Goals as goal
 
 pub returns-clause-within : goal.returns-clause-within
 returns-clause-within c = within_alone c.args.wasm.now c.read_module.result c.read_module.ensures

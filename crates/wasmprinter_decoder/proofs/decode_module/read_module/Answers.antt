@@ -12,7 +12,7 @@ use Rattle.wasmprinter_decoder.specs.Gathering.{Gathered, IsWhole, HoldsSections
 use Rattle.wasmprinter_decoder.specs.Refusals.{PlacedTable}
 use Rattle.wasmprinter_decoder.specs.Places.{after_view}
 use Rattle.wasmprinter_decoder.proofs.Assembling.{module_fault, module_unpaired, module_kept, module_spelled, module_within}
-use Rattle.wasmprinter_decoder.proofs.decoder.read_module.Goals as goal
+use Rattle.wasmprinter_decoder.proofs.decode_module.read_module.Goals as goal
 
 are_bytes : (bytes : List ℕ) → ((i : ℕ) → Fits w8 (get_or bytes i 0)) → AreBytes bytes
 are_bytes bytes h = recursion_from_All (λ b. b < 256) bytes (All-from_get_or (λ b. b < 256) bytes 0 (λ i l. (h i).fits))

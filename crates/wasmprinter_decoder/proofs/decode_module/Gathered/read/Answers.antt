@@ -2,7 +2,7 @@ use Rattle.std.proofs.Common.{arith, sym, ◌∙◌}
 use Rattle.std.proofs.lemmas.Result.{err_from_is_err_and}
 use Rattle.wasmprinter_decoder.specs.Sections.{section_view}
 use Rattle.wasmprinter_decoder.proofs.Gathering.{takes_byte, gathering_none, gathering_more, gathering_unordered, gathering_fault, gathering_unkept}
-use Rattle.wasmprinter_decoder.proofs.decoder.Gathered.read.Goals as goal
+use Rattle.wasmprinter_decoder.proofs.decode_module.Gathered.read.Goals as goal
 
 pub sections-init : goal.sections-init
 sections-init c = gathering_none c.args.cursor.now c.new-gathered.result c.new-gathered.ensures
