@@ -9,7 +9,7 @@ use crate::code::Body;
 use crate::data_segments::Data;
 use crate::elements::Element;
 use crate::exports::{Export, ExternKind};
-use crate::function::Function;
+use crate::defined_function::Function;
 use crate::globals::Global;
 use crate::imports::Import;
 use crate::memories::Memory;
