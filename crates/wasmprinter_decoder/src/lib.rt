@@ -13,7 +13,7 @@ mod elements;
 mod exports;
 pub mod find_branch_hints;
 mod flag_bits;
-mod functions;
+mod function_section;
 mod global_types;
 mod globals;
 mod imports;

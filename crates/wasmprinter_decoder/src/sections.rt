@@ -10,7 +10,7 @@ use crate::custom_sections::Custom;
 use crate::data_segments::{Data, read_data, read_data_count};
 use crate::elements::{Element, read_elements};
 use crate::exports::{Export, read_exports};
-use crate::functions::read_functions;
+use crate::function_section::read_functions;
 use crate::globals::{Global as GlobalVariable, read_globals};
 use crate::imports::{Import, read_imports};
 use crate::memories::{Memory, read_memories};

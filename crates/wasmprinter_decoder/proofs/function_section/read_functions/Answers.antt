@@ -1,6 +1,6 @@
 use Rattle.std.proofs.lemmas.Result.{err_from_is_err_and}
 use Rattle.wasmprinter_decoder.proofs.SectionLists.{functions_fault}
-use Rattle.wasmprinter_decoder.proofs.functions.read_functions.Goals as goal
+use Rattle.wasmprinter_decoder.proofs.function_section.read_functions.Goals as goal
 
 pub returns-in_err-indices : goal.returns-in_err-indices
 returns-in_err-indices c =

@@ -2,7 +2,7 @@ use Rattle.std.proofs.Common.{◌≡◌, ℕ, ◌<◌, List, [], ◌∷◌, ◌+
 use Rattle.std.proofs.lemmas.Result.{err_from_is_err_and}
 use Rattle.wasmprinter_spec.specs.Name.{u32}
 use Rattle.wasmprinter_decoder.proofs.Counting.{counts_items}
-use Rattle.wasmprinter_decoder.proofs.functions.read_type_indices.Goals as goal
+use Rattle.wasmprinter_decoder.proofs.function_section.read_type_indices.Goals as goal
 
 pub returns-then-count-gt-MOST_FUNCTIONS-clause-reads : goal.returns-then-count-gt-MOST_FUNCTIONS-clause-reads
 returns-then-count-gt-MOST_FUNCTIONS-clause-reads c = record {

@@ -1,5 +1,5 @@
 use Rattle.std.proofs.Common.{◌≡◌, ◌++◌}
-use Rattle.wasmprinter_decoder.proofs.functions.read_type_indices.Given as goal
+use Rattle.wasmprinter_decoder.proofs.function_section.read_type_indices.Given as goal
 
 abbrev pub invariant-loop-index : goal.invariant-loop-index
 invariant-loop-index l = record {
