@@ -13,7 +13,7 @@ use Rattle.wasmprinter_spec.specs.Limits.{most_functions}
 use Rattle.wasmprinter_spec.proofs.Ordered.{with_one, held_push, held_each, held_midst, held_picked}
 use Rattle.wasmprinter_decoder.specs.Refusals.{HasFew, FirstIsOver, FirstIsEmpty}
 use Rattle.wasmprinter_decoder.specs.Contents.{HasNoEmpty, IsSectionWithinLimits, HasCount, HasOver, HasEmpty, item_count}
-use Rattle.wasmprinter_decoder.specs.declared.section_kinds.SectionKind.{SectionKind}
+use Rattle.wasmprinter_decoder.specs.declared.custom_section_positions.SectionKind.{SectionKind}
 use Rattle.wasmprinter_decoder.specs.Places.{after_view}
 use Rattle.wasmprinter_decoder.specs.Gathering.{Gathered, none_gathered, Kept, gathered_items, section_items, with_section, IsHeld, item_count_in}
 

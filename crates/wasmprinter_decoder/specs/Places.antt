@@ -1,8 +1,8 @@
 -- The sections that custom sections follow.
 use Rattle.std.specs.Prelude.{Option, option_map}
 use Rattle.wasmprinter_spec.specs.Kinds.{Kind, TypeSection, ImportSection, FunctionSection, TableSection, MemorySection, TagSection, GlobalSection, ExportSection, StartSection, ElementSection, CodeSection, DataSection}
-use Rattle.wasmprinter_decoder.specs.declared.section_kinds.SectionKind.{SectionKind}
-use Rattle.wasmprinter_decoder.specs.declared.section_kinds.SectionKind.TheVariants as k
+use Rattle.wasmprinter_decoder.specs.declared.custom_section_positions.SectionKind.{SectionKind}
+use Rattle.wasmprinter_decoder.specs.declared.custom_section_positions.SectionKind.TheVariants as k
 
 -- The kind of section that a kind of the program represents.
 abbrev pub section_kind_view : SectionKind → Kind

@@ -17,7 +17,7 @@ use crate::globals::Global as GlobalVariable;
 use crate::imports::Import;
 use crate::memories::Memory;
 use crate::module::Module;
-use crate::section_kinds::{CustomEntry, SectionKind};
+use crate::custom_section_positions::{CustomEntry, SectionKind};
 use crate::sections::Section;
 use crate::start::Start;
 use crate::tables::Table;

@@ -2,7 +2,7 @@
 ghost use Rattle.std.specs.Prelude.{◌≡◌};
 ghost use Rattle.wasmprinter_spec.specs.Customs.Hints.{hints_of};
 
-use crate::section_kinds::CustomEntry;
+use crate::custom_section_positions::CustomEntry;
 use wasmprinter_custom::{Hints, is_hint_section};
 
 /// Returns the branch hints of a module's custom sections: those of the last hint section.

@@ -13,7 +13,7 @@ use crate::defined_function::Function;
 use crate::globals::Global;
 use crate::imports::Import;
 use crate::memories::Memory;
-use crate::section_kinds::CustomEntry;
+use crate::custom_section_positions::CustomEntry;
 use crate::start::Start;
 use crate::tables::Table;
 use crate::tags::Tag;

@@ -14,7 +14,7 @@ use crate::function_section::read_functions;
 use crate::globals::{Global as GlobalVariable, read_globals};
 use crate::imports::{Import, read_imports};
 use crate::memories::{Memory, read_memories};
-use crate::section_kinds::SectionKind;
+use crate::custom_section_positions::SectionKind;
 use crate::start::{Start, read_start};
 use crate::tables::{Table, read_tables};
 use crate::tags::{Tag, read_tags};

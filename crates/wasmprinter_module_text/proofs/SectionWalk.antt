@@ -8,8 +8,8 @@ use Rattle.wasmprinter_spec.specs.Placed.{PlacedModule}
 use Rattle.wasmprinter_spec.specs.Options.{Options, Answers}
 use Rattle.wasmprinter_spec.specs.Layout.Declarations.{Scope}
 use Rattle.wasmprinter_decoder.specs.Places.{section_kind_view}
-use Rattle.wasmprinter_decoder.specs.declared.section_kinds.SectionKind.{SectionKind}
-use Rattle.wasmprinter_decoder.specs.declared.section_kinds.SectionKind.TheVariants as k
+use Rattle.wasmprinter_decoder.specs.declared.custom_section_positions.SectionKind.{SectionKind}
+use Rattle.wasmprinter_decoder.specs.declared.custom_section_positions.SectionKind.TheVariants as k
 use Rattle.wasmprinter_spec.specs.Layout.{section_parts, section_order}
 use Rattle.wasmprinter_module_text.specs.Sections.{sections_parts}
 

@@ -4,7 +4,7 @@ ghost use Rattle.wasmprinter_spec.specs.Layout.Customs.{section_word as word_of_
 ghost use Rattle.wasmprinter_decoder.specs.Places.{section_kind_view, after_view};
 
 use crate::annotation_strings::SECTION_NESTING;
-use wasmprinter_decoder::section_kinds::{CustomEntry, SectionKind};
+use wasmprinter_decoder::custom_section_positions::{CustomEntry, SectionKind};
 use wasmprinter_print::Output;
 use wasmprinter_text::annotations::{open_annotation_space, write_plain_line_comment};
 use wasmprinter_text::data_strings::write_shown_bytes;

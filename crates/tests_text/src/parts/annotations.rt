@@ -11,7 +11,7 @@ use std::test::Fail;
 use wasmprinter_bytes::Error;
 use wasmprinter_bytes::cursor::Cursor;
 use wasmprinter_decoder::custom_sections::Custom;
-use wasmprinter_decoder::section_kinds::{CustomEntry, SectionKind};
+use wasmprinter_decoder::custom_section_positions::{CustomEntry, SectionKind};
 use wasmprinter_module_text::{write_custom, write_customs};
 use wasmprinter_print::{LayoutOptions, Print, PrintOptions, Printer};
 use wasmprinter_samples::expect_same;
