@@ -12,11 +12,11 @@ ghost use Rattle.wasmprinter_flat.specs.OpenLabels.Stack.{unnamed_label};
 ghost use Rattle.wasmprinter_flat.specs.OpenLabels.Inside.{label_of};
 ghost use Rattle.wasmprinter_flat.specs.OpenLabels.Views.{found_view};
 
+mod label_shadowing;
 mod labels_by_name;
-mod named_blocks;
 
 use crate::open_labels::labels_by_name::{NumberedLabel, numbered_labels};
-use crate::open_labels::named_blocks::{NameAt, NamedBlocks};
+use crate::open_labels::label_shadowing::{NameAt, NamedBlocks};
 use std::alloc::{AllocError, Global};
 use std::marker::Model;
 use wasmprinter_custom::{Identifier, Identifiers, NameEntries, Space};

@@ -16,7 +16,7 @@ use Rattle.std.specs.Option.{option_eq}
 use Rattle.wasmprinter_spec.specs.Grammar.{some_is}
 use Rattle.wasmprinter_flat.specs.OpenLabels.Stack.{Block, depths, AreBelow, Descend, StandsAtDepth}
 use Rattle.wasmprinter_flat.specs.OpenLabels.Blocks.{block_view, blocks_view, innermost_of, Hide, AreKept}
-use Rattle.wasmprinter_flat.specs.declared.open_labels.named_blocks.NamedBlock.{NamedBlock}
+use Rattle.wasmprinter_flat.specs.declared.open_labels.label_shadowing.NamedBlock.{NamedBlock}
 
 nat_eq-other : (a b : ℕ) → nat_eq a b ≡ false → b ≢ a
 nat_eq-other a b e h = eqb-false a b e (sym h)

@@ -3,9 +3,9 @@ use Rattle.std.specs.Prelude.{◌≡◌, ◌≢◌, ℕ, ◌<◌, ◌≤◌, ◌
 use Rattle.std.specs.List.{AllByRecursion}
 use Rattle.wasmprinter_custom.specs.Views.{name_view}
 use Rattle.wasmprinter_flat.specs.OpenLabels.Stack.{Block, depths, Descend, StandsAtDepth}
-use Rattle.wasmprinter_flat.specs.declared.open_labels.named_blocks.NamedBlock.{NamedBlock}
-use Rattle.wasmprinter_flat.specs.declared.open_labels.named_blocks.NameAt.{NameAt}
-use Rattle.wasmprinter_flat.specs.declared.open_labels.named_blocks.NameAt.TheVariants.{Visible, Hidden, Unnamed}
+use Rattle.wasmprinter_flat.specs.declared.open_labels.label_shadowing.NamedBlock.{NamedBlock}
+use Rattle.wasmprinter_flat.specs.declared.open_labels.label_shadowing.NameAt.{NameAt}
+use Rattle.wasmprinter_flat.specs.declared.open_labels.label_shadowing.NameAt.TheVariants.{Visible, Hidden, Unnamed}
 
 -- The block that the program's value represents.
 abbrev pub block_view : NamedBlock → Block

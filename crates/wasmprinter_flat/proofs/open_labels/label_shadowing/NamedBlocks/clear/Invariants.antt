@@ -1,5 +1,5 @@
 use Rattle.std.proofs.Common.{◌≡◌, length}
-use Rattle.wasmprinter_flat.proofs.open_labels.named_blocks.NamedBlocks.clear.Given as goal
+use Rattle.wasmprinter_flat.proofs.open_labels.label_shadowing.NamedBlocks.clear.Given as goal
 
 abbrev pub invariant-pops : goal.invariant-pops
 invariant-pops l = l.self.limit ≡ l.fn.self.limit

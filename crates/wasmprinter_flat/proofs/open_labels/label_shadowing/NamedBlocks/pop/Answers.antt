@@ -2,7 +2,7 @@ use Rattle.std.proofs.Common.{sym, ap, ◌∙◌, arith}
 use Rattle.std.proofs.lemmas.List.{length-set}
 use Rattle.wasmprinter_flat.specs.OpenLabels.Blocks.{block_view}
 use Rattle.wasmprinter_flat.proofs.OpenLabels.Kept.{popped, last_view}
-use Rattle.wasmprinter_flat.proofs.open_labels.named_blocks.NamedBlocks.pop.Goals as goal
+use Rattle.wasmprinter_flat.proofs.open_labels.label_shadowing.NamedBlocks.pop.Goals as goal
 
 pub invariant_of-self : goal.invariant_of-self
 invariant_of-self c =

@@ -4,7 +4,7 @@ use Rattle.std.specs.List.{AllByRecursion}
 use Rattle.wasmprinter_flat.specs.OpenLabels.Stack.{Block, StandsAtDepth}
 use Rattle.wasmprinter_flat.specs.OpenLabels.Blocks.{block_view}
 use Rattle.wasmprinter_flat.proofs.OpenLabels.Kept.{found_same, name_number_below, is_shown, is_hidden, is_position, is_other_position, none_at}
-use Rattle.wasmprinter_flat.proofs.open_labels.named_blocks.NamedBlocks.find.Goals as goal
+use Rattle.wasmprinter_flat.proofs.open_labels.label_shadowing.NamedBlocks.find.Goals as goal
 
 pub index-requires : goal.index-requires
 index-requires c =
