@@ -8,7 +8,7 @@ pub mod block_types;
 pub mod callee_types;
 pub mod counts;
 pub mod label_arities;
-mod named;
+mod referenced_items;
 mod resolve_arity;
 
 use crate::arities::callee_types::CalleeTypes;

@@ -11,7 +11,7 @@ ghost use Rattle.wasmprinter_fold.specs.Counted.{known_view};
 use crate::arities::callee_types::CalleeTypes;
 use crate::arities::counts::{Counts, counts_of_call, one_more, operands_and_results};
 use crate::arities::label_arities::LabelCounts;
-use crate::arities::named::{
+use crate::arities::referenced_items::{
     block_gives_in, cast_label_in, count_in, field_count_named, function_named, index_in,
     last_label_in, tag_named, type_named,
 };

@@ -1,4 +1,4 @@
-use Rattle.wasmprinter_fold.proofs.arities.named.block_gives_in.Goals as goal
+use Rattle.wasmprinter_fold.proofs.arities.referenced_items.block_gives_in.Goals as goal
 
 pub returns-in-Block : goal.returns-in-Block
 returns-in-Block c own = rw c.in-Block.is (c.block_results.ensures own)
