@@ -2,7 +2,7 @@
 //! `delegate`), and no branch hints on operators whose folded text can't hold them.
 
 mod check;
-mod hints;
+mod check_hints;
 mod item_expressions;
 mod legacy_operators;
 

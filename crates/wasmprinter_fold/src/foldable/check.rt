@@ -6,7 +6,7 @@ ghost use Rattle.wasmprinter_bytes.specs.declared.library_error.Error.TheVariant
 ghost use Rattle.wasmprinter_spec.specs.Folding.Refusals.{legacy_places_in, legacy_places, lists_before_code, body_lists, misplaced_hints};
 ghost use Rattle.wasmprinter_fold.specs.Refused.{error_of_first, HasFoldReason};
 
-use crate::foldable::hints::check_hints;
+use crate::foldable::check_hints::check_hints;
 use crate::foldable::item_expressions::{check_bodies, check_each};
 use wasmprinter_bytes::Error;
 use wasmprinter_decoder::{Fields, Module};
