@@ -14,8 +14,8 @@ use Rattle.wasmprinter_fold.specs.Rows.{IsLast}
 use Rattle.wasmprinter_fold.proofs.Postorders.{length-row}
 use Rattle.wasmprinter_fold.specs.Shown.{shown_of_head, IsIn, AreIn, node_front, row_pieces}
 use Rattle.wasmprinter_fold.specs.Tasks.{pieces_of_row, task_front, task_rest, task_pieces, pieces_left, IsSoundRow, IsSound, AllSound, StacksRow, StacksRest, KeepsSoundRow, KeepsSound, steps_of, steps_left}
-use Rattle.wasmprinter_fold.specs.declared.node_text.tasks.Task.{Task}
-use Rattle.wasmprinter_fold.specs.declared.node_text.tasks.Task.TheVariants as task
+use Rattle.wasmprinter_fold.specs.declared.node_text.write_tasks.Task.{Task}
+use Rattle.wasmprinter_fold.specs.declared.node_text.write_tasks.Task.TheVariants as task
 use Rattle.wasmprinter_fold.proofs.RowLaws.{nil_mapped, row_last, row_none}
 
 -- ---- Two lists of tasks, joined

@@ -7,8 +7,8 @@ use Rattle.wasmprinter_fold.specs.Mapping.{map_nodes}
 use Rattle.wasmprinter_fold.specs.Postorder.{forest_of, IsPostorder}
 use Rattle.wasmprinter_fold.specs.declared.nodes.Node.{Node}
 use Rattle.wasmprinter_fold.specs.Shown.{shown_of_head, IsIn, AreIn, node_front, row_pieces}
-use Rattle.wasmprinter_fold.specs.declared.node_text.tasks.Task.{Task}
-use Rattle.wasmprinter_fold.specs.declared.node_text.tasks.Task.TheVariants as task
+use Rattle.wasmprinter_fold.specs.declared.node_text.write_tasks.Task.{Task}
+use Rattle.wasmprinter_fold.specs.declared.node_text.write_tasks.Task.TheVariants as task
 
 module _ (form : Form) (nesting : ℕ) (buffer : List ℕ) where
   -- The pieces of a row of nodes.

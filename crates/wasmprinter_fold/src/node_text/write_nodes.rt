@@ -10,7 +10,7 @@ ghost use Rattle.wasmprinter_fold.specs.Postorder.{IsPostorder, forest_of};
 ghost use Rattle.wasmprinter_fold.specs.Shown.{shown_of_head, IsIn, AreIn, row_pieces, node_front, shown_hint, comment_break};
 ghost use Rattle.wasmprinter_fold.specs.Tasks.{task_front, IsSound};
 
-use crate::node_text::tasks::{Task, put_rest};
+use crate::node_text::write_tasks::{Task, put_rest};
 use crate::nodes::{Node, NodeText};
 use std::alloc::Global;
 use wasmprinter_flat::operators::{Form, start_operator};

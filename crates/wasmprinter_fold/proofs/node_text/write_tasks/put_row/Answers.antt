@@ -1,6 +1,6 @@
 use Rattle.std.proofs.Common.{arith}
 use Rattle.wasmprinter_fold.proofs.TaskLaws.{one_put, pieces_all_put, sound_all_put}
-use Rattle.wasmprinter_fold.proofs.node_text.tasks.put_row.Goals as goal
+use Rattle.wasmprinter_fold.proofs.node_text.write_tasks.put_row.Goals as goal
 
 pub loop-last-preserved : goal.loop-last-preserved
 loop-last-preserved c = (

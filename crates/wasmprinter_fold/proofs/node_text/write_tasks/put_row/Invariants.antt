@@ -1,7 +1,7 @@
 use Rattle.std.proofs.Common.{◌+◌, ◌≤◌, length}
 use Rattle.std.specs.Vec.{vec_len, vec_capacity}
 use Rattle.wasmprinter_fold.proofs.TaskLaws.{IsPut}
-use Rattle.wasmprinter_fold.proofs.node_text.tasks.put_row.Given as goal
+use Rattle.wasmprinter_fold.proofs.node_text.write_tasks.put_row.Given as goal
 
 abbrev pub invariant-loop-last : goal.invariant-loop-last
 invariant-loop-last l =

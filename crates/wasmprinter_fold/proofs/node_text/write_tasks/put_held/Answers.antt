@@ -1,6 +1,6 @@
 use Rattle.std.specs.Prelude.{false}
 use Rattle.wasmprinter_fold.proofs.TaskLaws.{pieces_pushed, steps_pushed, sound_pushed}
-use Rattle.wasmprinter_fold.proofs.node_text.tasks.put_held.Goals as goal
+use Rattle.wasmprinter_fold.proofs.node_text.write_tasks.put_held.Goals as goal
 
 pub returns-in_ok-push-clause-pieces : goal.returns-in_ok-push-clause-pieces
 returns-in_ok-push-clause-pieces c = pieces_pushed _ _ c.args.held false c.args.depth c.in_ok-push.ensures.items

@@ -1,5 +1,5 @@
 use Rattle.wasmprinter_fold.proofs.TaskLaws.{on_ok, pieces_one, steps_one, sound_one}
-use Rattle.wasmprinter_fold.proofs.node_text.tasks.put_rest.Goals as goal
+use Rattle.wasmprinter_fold.proofs.node_text.write_tasks.put_rest.Goals as goal
 
 pub returns-in-Nodes-clause-sound : goal.returns-in-Nodes-clause-sound
 returns-in-Nodes-clause-sound c = rw c.in-Nodes.is c.put_row.ensures.sound
