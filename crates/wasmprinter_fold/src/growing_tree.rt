@@ -16,7 +16,7 @@ use crate::arities::callee_types::CalleeTypes;
 use crate::arities::counts::Counts;
 use crate::arities::counts_of;
 use crate::arities::label_arities::{LabelCounts, label_of_block};
-use crate::node_text::texts::{HintedOperator, Texts};
+use crate::node_text::text_buffer::{HintedOperator, Texts};
 use crate::nodes::Builder;
 use std::alloc::{AllocError, Global};
 use wasmprinter_custom::FunctionHints;

@@ -1,6 +1,6 @@
 use Rattle.wasmprinter_fold.proofs.TextLaws.{made_adds}
 use Rattle.wasmprinter_fold.proofs.NodeTexts.{entered_in, entered_shown}
-use Rattle.wasmprinter_fold.proofs.node_text.texts.Texts.write_operator.Goals as goal
+use Rattle.wasmprinter_fold.proofs.node_text.text_buffer.Texts.write_operator.Goals as goal
 
 pub returns-clause-inside : goal.returns-clause-inside
 returns-clause-inside g c =

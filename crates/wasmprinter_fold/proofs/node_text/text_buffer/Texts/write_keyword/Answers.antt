@@ -1,7 +1,7 @@
 use Rattle.std.specs.Prelude.{None}
 use Rattle.wasmprinter_fold.proofs.TextLaws.{text_adds}
 use Rattle.wasmprinter_fold.proofs.NodeTexts.{entered_in, entered_shown}
-use Rattle.wasmprinter_fold.proofs.node_text.texts.Texts.write_keyword.Goals as goal
+use Rattle.wasmprinter_fold.proofs.node_text.text_buffer.Texts.write_keyword.Goals as goal
 
 pub returns-clause-inside : goal.returns-clause-inside
 returns-clause-inside c =

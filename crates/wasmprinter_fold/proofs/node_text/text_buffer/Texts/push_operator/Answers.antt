@@ -1,6 +1,6 @@
 use Rattle.std.proofs.Common.{rules}
 use Rattle.wasmprinter_fold.proofs.TextLaws.{made_color, made_grows}
-use Rattle.wasmprinter_fold.proofs.node_text.texts.Texts.push_operator.Goals as goal
+use Rattle.wasmprinter_fold.proofs.node_text.text_buffer.Texts.push_operator.Goals as goal
 
 pub returns-then-is_some-clause-color : goal.returns-then-is_some-clause-color
 returns-then-is_some-clause-color g c = made_color c.args.self.now (search rules) (search rules) c.write_operator_word.ensures.0 _ (search rules)
