@@ -13,7 +13,7 @@ use crate::expressions::write_constant_group;
 use crate::module_scope::{
     Scope, write_declaration_in, write_index_group_in, write_index_in, write_ref_type_in,
 };
-use crate::single_field::Field;
+use crate::field_lines::Field;
 use wasmprinter_bytes::lazy_items::Items;
 use wasmprinter_custom::Space;
 use wasmprinter_decoder::{Element, ElementItems, ElementMode};

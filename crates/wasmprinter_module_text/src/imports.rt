@@ -10,7 +10,7 @@ use crate::globals::write_declared_global;
 use crate::headers::{write_function_header, write_tag_header};
 use crate::memories::write_declared_memory;
 use crate::module_scope::Scope;
-use crate::single_field::{Field, write_field};
+use crate::field_lines::{Field, write_field};
 use crate::tables::write_declared_table;
 use std::marker::Model;
 use wasmprinter_decoder::{ExternType, Import};

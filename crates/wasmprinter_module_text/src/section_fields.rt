@@ -14,7 +14,7 @@ ghost use Rattle.wasmprinter_module_text.specs.Parts.{field_line};
 use crate::functions::write_function;
 use crate::imports::write_imports;
 use crate::module_scope::Scope;
-use crate::single_field::{Field, write_each};
+use crate::field_lines::{Field, write_each};
 use crate::start::write_start;
 use crate::types::write_type_groups;
 use wasmprinter_decoder::find_branch_hints::hints_of;

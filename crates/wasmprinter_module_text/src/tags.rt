@@ -5,7 +5,7 @@ ghost use Rattle.wasmprinter_spec.specs.Layout.Functions.{header_pieces};
 
 use crate::headers::write_tag_header;
 use crate::module_scope::Scope;
-use crate::single_field::Field;
+use crate::field_lines::Field;
 use wasmprinter_decoder::Tag;
 use wasmprinter_print::FoldingOutput;
 
