@@ -6,7 +6,7 @@ ghost use Rattle.wasmprinter_spec.specs.Layout.Groups.{line_group_space, group_s
 ghost use Rattle.wasmprinter_module_text.specs.Scopes.{scope_view, function_scope_view};
 ghost use Rattle.wasmprinter_module_text.specs.Functions.{parameter_count_of, result_count_of, outline_parts, definition_parts};
 
-use crate::headers::write_function_header;
+use crate::func_and_tag_headers::write_function_header;
 use crate::locals::write_locals;
 use crate::module_scope::{FIELD_NESTING, Scope};
 use crate::operators::write_flat_or_folded;

@@ -7,7 +7,7 @@ ghost use Rattle.wasmprinter_module_text.specs.Scopes.{scope_view};
 
 use crate::exports::kind_word;
 use crate::globals::write_declared_global;
-use crate::headers::{write_function_header, write_tag_header};
+use crate::func_and_tag_headers::{write_function_header, write_tag_header};
 use crate::memories::write_declared_memory;
 use crate::module_scope::Scope;
 use crate::field_lines::{Field, write_field};
