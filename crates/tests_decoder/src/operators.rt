@@ -9,7 +9,7 @@ use wasmprinter_bytes::cursor::Cursor;
 use wasmprinter_bytes::lazy_items::Items;
 use wasmprinter_bytes::decode_traits::Decode;
 use wasmprinter_bytes::{Error, Malformed};
-use wasmprinter_ops::blocks::{BlockType, Catch};
+use wasmprinter_ops::block_immediates::{BlockType, Catch};
 use wasmprinter_ops::composite_types::{CompositeType, FieldType, StorageType, SubType, SubTypes};
 use wasmprinter_ops::expression::{Expression, OperatorsReader};
 use wasmprinter_ops::mem_arg::MemArg;

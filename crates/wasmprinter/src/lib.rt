@@ -47,7 +47,7 @@ pub mod text {
 pub mod wasm {
     pub use wasmprinter_custom::{Names, Space};
     pub use wasmprinter_decoder::{Body, Module, decode};
-    pub use wasmprinter_ops::blocks::{BlockType, Catch, Catches, Targets};
+    pub use wasmprinter_ops::block_immediates::{BlockType, Catch, Catches, Targets};
     pub use wasmprinter_ops::expression::OperatorsReader;
     pub use wasmprinter_ops::mem_arg::MemArg;
     pub use wasmprinter_ops::opcodes_and_shapes::Opcode;

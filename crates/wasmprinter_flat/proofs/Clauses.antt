@@ -5,7 +5,7 @@ use Rattle.wasmprinter_spec.specs.Labels.{Label}
 use Rattle.wasmprinter_spec.specs.Piece.{OneSpace}
 use Rattle.wasmprinter_spec.specs.Layout.Operators.{Setting, catch_pieces, catches_pieces}
 use Rattle.wasmprinter_ops.specs.Blocks.{catch_view, catches_view}
-use Rattle.wasmprinter_ops.specs.declared.blocks.Catch.{Catch}
+use Rattle.wasmprinter_ops.specs.declared.block_immediates.Catch.{Catch}
 
 module _ (s : Setting) (inner xs : List Label) where
   -- An empty list of catch clauses has no pieces.

@@ -17,7 +17,7 @@ use crate::label_immediates::write_label;
 use crate::operators::Form;
 use crate::type_immediates::write_result;
 use wasmprinter_custom::Identifier;
-use wasmprinter_ops::blocks::{BlockType, Catch, Catches};
+use wasmprinter_ops::block_immediates::{BlockType, Catch, Catches};
 use wasmprinter_ops::opcodes_and_shapes::Space;
 use wasmprinter_print::Output;
 use wasmprinter_text::comments::{write_label_block_comment, write_label_line_comment};

@@ -9,7 +9,7 @@ ghost use Rattle.wasmprinter_flat.specs.Contexts.{labels_around, labels_within};
 use crate::immediate_context::Context;
 use crate::open_labels::LabelRef;
 use wasmprinter_custom::Identifier;
-use wasmprinter_ops::blocks::Targets;
+use wasmprinter_ops::block_immediates::Targets;
 use wasmprinter_print::Output;
 use wasmprinter_text::comments::{write_depth_comment, write_unstyled_comment};
 use wasmprinter_text::indices::{write_id_and_name, write_index};

@@ -9,10 +9,10 @@ use Rattle.wasmprinter_ops.specs.Blocks.{block_type_view, catch_view, catch_of_v
 use Rattle.wasmprinter_ops.specs.Immediates.{immediates_view, HasCastFlags}
 use Rattle.wasmprinter_ops.specs.Operands.{source_null, target_null}
 use Rattle.wasmprinter_ops.specs.OfViews.{block_type_of_view, cast_flags, immediates_of_view}
-use Rattle.wasmprinter_ops.specs.declared.blocks.BlockType.{BlockType}
-use Rattle.wasmprinter_ops.specs.declared.blocks.BlockType.TheVariants as block_types
-use Rattle.wasmprinter_ops.specs.declared.blocks.Catch.{Catch}
-use Rattle.wasmprinter_ops.specs.declared.blocks.Catch.TheVariants as catch_clauses
+use Rattle.wasmprinter_ops.specs.declared.block_immediates.BlockType.{BlockType}
+use Rattle.wasmprinter_ops.specs.declared.block_immediates.BlockType.TheVariants as block_types
+use Rattle.wasmprinter_ops.specs.declared.block_immediates.Catch.{Catch}
+use Rattle.wasmprinter_ops.specs.declared.block_immediates.Catch.TheVariants as catch_clauses
 use Rattle.wasmprinter_ops.specs.declared.operator.Immediates.{Immediates}
 use Rattle.wasmprinter_ops.specs.declared.operator.Immediates.TheVariants as i
 

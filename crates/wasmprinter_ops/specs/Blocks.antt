@@ -5,10 +5,10 @@ use Rattle.wasmprinter_spec.specs.Operator.{Empty, Value, OfType, One, OneRef, A
 use Rattle.wasmprinter_spec.specs.Operator.{BlockType as DefinedBlockType, Catch as DefinedCatch}
 use Rattle.wasmprinter_spec.specs.Instructions.{catch}
 use Rattle.wasmprinter_ops.specs.ValTypes.{val_type_view}
-use Rattle.wasmprinter_ops.specs.declared.blocks.BlockType.{BlockType}
-use Rattle.wasmprinter_ops.specs.declared.blocks.BlockType.TheVariants as block_types
-use Rattle.wasmprinter_ops.specs.declared.blocks.Catch.{Catch}
-use Rattle.wasmprinter_ops.specs.declared.blocks.Catch.TheVariants as catch_clauses
+use Rattle.wasmprinter_ops.specs.declared.block_immediates.BlockType.{BlockType}
+use Rattle.wasmprinter_ops.specs.declared.block_immediates.BlockType.TheVariants as block_types
+use Rattle.wasmprinter_ops.specs.declared.block_immediates.Catch.{Catch}
+use Rattle.wasmprinter_ops.specs.declared.block_immediates.Catch.TheVariants as catch_clauses
 
 -- The block type that a block type of the program represents.
 abbrev pub block_type_view : BlockType → DefinedBlockType

@@ -5,8 +5,8 @@ use Rattle.wasmprinter_spec.specs.Operator.{Empty, Value, OfType}
 use Rattle.wasmprinter_spec.specs.Operator.{BlockType as DefinedBlockType, Immediates as DefinedImmediates}
 use Rattle.wasmprinter_ops.specs.ValTypes.{heap_of_view, type_of_view}
 use Rattle.wasmprinter_ops.specs.Blocks.{catch_of_view}
-use Rattle.wasmprinter_ops.specs.declared.blocks.BlockType.{BlockType}
-use Rattle.wasmprinter_ops.specs.declared.blocks.BlockType.TheVariants as block_types
+use Rattle.wasmprinter_ops.specs.declared.block_immediates.BlockType.{BlockType}
+use Rattle.wasmprinter_ops.specs.declared.block_immediates.BlockType.TheVariants as block_types
 use Rattle.wasmprinter_ops.specs.declared.operator.Immediates.{Immediates}
 use Rattle.wasmprinter_ops.specs.declared.operator.Immediates.TheVariants as i
 

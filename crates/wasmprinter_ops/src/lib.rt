@@ -2,7 +2,7 @@
 //! immediates, and iterators over the bytes that encode them.
 #![tactic(auto)]
 
-pub mod blocks;
+pub mod block_immediates;
 pub mod casts;
 pub mod composite_types;
 pub mod expression;

@@ -8,7 +8,7 @@ ghost use Rattle.wasmprinter_ops.specs.Immediates.{immediates_view, HasShape, Ha
 ghost use Rattle.wasmprinter_ops.specs.Operators.{placed_view, AfterOpcode, Passes, PassesOperator};
 ghost use Rattle.wasmprinter_ops.specs.Shapes.{shape_view};
 
-use crate::blocks::{BlockType, Catches, Targets, read_block_type, read_catches};
+use crate::block_immediates::{BlockType, Catches, Targets, read_block_type, read_catches};
 use crate::casts::MOST_FLAGS;
 use crate::fixed_bytes::{read_bytes, read_f32_bits, read_f64_bits};
 use crate::mem_arg::MemArg;

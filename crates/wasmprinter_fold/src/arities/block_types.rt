@@ -7,7 +7,7 @@ ghost use Rattle.wasmprinter_ops.specs.Blocks.{block_type_view};
 
 use crate::arities::callee_types::CalleeTypes;
 use crate::arities::counts::{parameter_count_of, result_count_of};
-use wasmprinter_ops::blocks::BlockType;
+use wasmprinter_ops::block_immediates::BlockType;
 
 /// Returns the number of parameters of the function type with the index, or `None` if there is no such function
 /// type.

@@ -12,7 +12,7 @@ use crate::arities::block_types::{block_operands, block_results};
 use crate::arities::callee_types::CalleeTypes;
 use std::alloc::{AllocError, Global};
 use std::marker::Model;
-use wasmprinter_ops::blocks::BlockType;
+use wasmprinter_ops::block_immediates::BlockType;
 use wasmprinter_ops::opcodes_and_shapes::{Opcode, Role};
 use wasmprinter_ops::operator::{Immediates, Operator};
 

@@ -1,7 +1,7 @@
 use Rattle.std.proofs.Common.{rules, sym}
 use Rattle.wasmprinter_ops.specs.ValTypes.{val_type_view}
 use Rattle.wasmprinter_ops.proofs.BlockTypes.{index_read, value_read}
-use Rattle.wasmprinter_ops.proofs.blocks.read_block_type.Goals as goal
+use Rattle.wasmprinter_ops.proofs.block_immediates.read_block_type.Goals as goal
 
 pub returns-in_ok-read_type_index : goal.returns-in_ok-read_type_index
 returns-in_ok-read_type_index c = record {

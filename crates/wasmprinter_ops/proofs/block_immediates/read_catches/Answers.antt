@@ -3,7 +3,7 @@ use Rattle.wasmprinter_spec.specs.Operator.{Catch, One, OneRef, All, AllRef}
 use Rattle.wasmprinter_spec.specs.Instructions.{catch}
 use Rattle.wasmprinter_ops.specs.Blocks.{catch_view, catch_of_view}
 use Rattle.wasmprinter_ops.proofs.ReadValues.{reads_made}
-use Rattle.wasmprinter_ops.proofs.blocks.read_catches.Goals as goal
+use Rattle.wasmprinter_ops.proofs.block_immediates.read_catches.Goals as goal
 
 seen_made : (c : Catch) → catch_view (catch_of_view c) ≡ c
 seen_made (One tag label) = refl
