@@ -7,10 +7,10 @@ mod halt;
 mod layout_output;
 mod options;
 mod print;
+mod print_text;
 mod printer;
 pub mod sequences;
 mod style;
-mod text_only_printer;
 
 pub use fmt_write::{PrintFmtWrite, WriteText};
 pub use halt::Halt;
@@ -19,4 +19,4 @@ pub use layout_output::{FoldingOutput, Output};
 pub use print::Print;
 pub use printer::{LayoutOptions, Printer};
 pub use style::Style;
-pub use text_only_printer::{PrintText, text_is_gained};
+pub use print_text::{PrintText, text_is_gained};
