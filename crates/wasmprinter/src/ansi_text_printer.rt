@@ -6,7 +6,7 @@ use std::alloc::{AllocError, Global};
 use std::io;
 use std::marker::Model;
 use wasmprinter_print::Print;
-use wasmprinter_print::sequences::{
+use wasmprinter_print::ansi_sequences::{
     comment_sequences, keyword_sequences, literal_sequences, name_sequences, reset_sequences,
     type_sequences,
 };

@@ -2,6 +2,7 @@
 //! the trait [`Output`], and [`Printer`], which implements it over a [`Print`].
 #![tactic(auto)]
 
+pub mod ansi_sequences;
 mod fmt_write;
 mod halt;
 mod layout_output;
@@ -9,7 +10,6 @@ mod options;
 mod print;
 mod print_text;
 mod printer;
-pub mod sequences;
 mod style;
 
 pub use fmt_write::{PrintFmtWrite, WriteText};

@@ -10,7 +10,7 @@ use std::marker::{Brand, Model};
 use wasmprinter_flat::open_labels::OpenLabels;
 use wasmprinter_flat::operators::{Setting, write_operator_word};
 use wasmprinter_ops::operator::Operator;
-use wasmprinter_print::sequences::{
+use wasmprinter_print::ansi_sequences::{
     comment_sequences, keyword_sequences, literal_sequences, name_sequences, reset_sequences,
     type_sequences,
 };
