@@ -5,7 +5,7 @@ pub mod customs;
 pub mod named;
 pub mod operators;
 pub mod sections;
-pub mod whole;
+pub mod size_and_count_limits;
 pub mod with_calls;
 
 use crate::{IDENTITY, MINUS_ONE, PREAMBLE};
@@ -36,7 +36,7 @@ use sections::{
     MUTABLE_GLOBAL, PAGES_OF_ONE_BYTE, PAGES_TOO_LARGE, RECURSION_GROUP, STRUCT_TYPE, SUBTYPES,
     UNKNOWN_LIMIT,
 };
-use whole::{
+use size_and_count_limits::{
     BODY_MISSING, BODY_WITHOUT_END, COMPONENT, MOST_LOCALS, SIZE_IN_SIX_BYTES, SIZE_IN_TWO_BYTES,
     TOO_MANY_LOCALS,
 };
