@@ -10,7 +10,7 @@ use crate::field_lines::Field;
 use wasmprinter_custom::Space;
 use wasmprinter_decoder::{Data, DataMode};
 use wasmprinter_print::{FoldingOutput, Output};
-use wasmprinter_text::data_strings::write_shown_bytes;
+use wasmprinter_text::bytes_or_ellipsis::write_shown_bytes;
 use wasmprinter_text::parens_and_words::write_space;
 
 /// Writes the memory of a segment and a space, or nothing for memory 0.

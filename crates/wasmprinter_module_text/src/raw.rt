@@ -7,7 +7,7 @@ use crate::annotation_strings::SECTION_NESTING;
 use wasmprinter_decoder::custom_section_positions::{CustomEntry, SectionKind};
 use wasmprinter_print::Output;
 use wasmprinter_text::annotations::{open_annotation_space, write_plain_line_comment};
-use wasmprinter_text::data_strings::write_shown_bytes;
+use wasmprinter_text::bytes_or_ellipsis::write_shown_bytes;
 use wasmprinter_text::lines::write_break;
 use wasmprinter_text::parens_and_words::{open_plain, write_close_paren, write_space, write_word};
 use wasmprinter_text::strings::write_string;

@@ -4,8 +4,8 @@
 #![tactic(auto)]
 
 pub mod annotations;
+pub mod bytes_or_ellipsis;
 pub mod comments;
-pub mod data_strings;
 mod float_format;
 pub mod floats;
 pub mod hints;
