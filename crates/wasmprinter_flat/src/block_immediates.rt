@@ -21,7 +21,7 @@ use wasmprinter_ops::block_immediates::{BlockType, Catch, Catches};
 use wasmprinter_ops::opcodes_and_shapes::Space;
 use wasmprinter_print::Output;
 use wasmprinter_text::comments::{write_label_block_comment, write_label_line_comment};
-use wasmprinter_text::indices::write_leading_id_and_name;
+use wasmprinter_text::declarations_and_indices::write_leading_id_and_name;
 use wasmprinter_text::parens_and_words::{open_group, write_close_paren, write_space};
 use wasmprinter_text::signature::{Signatures, write_type_use};
 

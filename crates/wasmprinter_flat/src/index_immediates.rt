@@ -13,7 +13,7 @@ ghost use Rattle.wasmprinter_flat.specs.Contexts.{names_in, setting_in};
 use crate::immediate_context::Context;
 use wasmprinter_ops::opcodes_and_shapes::Space;
 use wasmprinter_print::Output;
-use wasmprinter_text::indices::write_index;
+use wasmprinter_text::declarations_and_indices::write_index;
 use wasmprinter_text::numbers::write_number_word;
 use wasmprinter_text::parens_and_words::write_space;
 use wasmprinter_text::signature::{Signatures, write_type_index};

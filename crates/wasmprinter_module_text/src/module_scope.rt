@@ -19,7 +19,7 @@ use wasmprinter_fold::Folder;
 use wasmprinter_ops::composite_types::{FuncType, SubType};
 use wasmprinter_ops::{RefType, ValType};
 use wasmprinter_print::Output;
-use wasmprinter_text::indices::{self, write_declaration_of, write_index_of};
+use wasmprinter_text::declarations_and_indices::{self, write_declaration_of, write_index_of};
 use wasmprinter_text::signature::{self, Signatures};
 use wasmprinter_text::types;
 use wasmprinter_text::types::composite::write_type_field;
@@ -100,7 +100,7 @@ pub fn write_index_group_in<O: Output>(
     ensures { O.wrote out.old out.new
         (line_group_space keyword.now (index_pieces (item_in scope.now.labels space index) index)) }
 {
-    indices::write_index_group(out, &scope.identifiers(), keyword, space, index);
+    declarations_and_indices::write_index_group(out, &scope.identifiers(), keyword, space, index);
 }
 
 /// Writes a space, the index of a type, and the parameters and results of that type if it is a function type. The

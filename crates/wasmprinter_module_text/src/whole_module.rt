@@ -15,7 +15,7 @@ use wasmprinter_decoder::{ExternKind, Fields, Module, SectionKind};
 use wasmprinter_flat::open_labels::OpenLabels;
 use wasmprinter_fold::Folder;
 use wasmprinter_print::FoldingOutput;
-use wasmprinter_text::indices::write_leading_id_and_name;
+use wasmprinter_text::declarations_and_indices::write_leading_id_and_name;
 use wasmprinter_text::lines::{close_group_at, end_last_line, start_first_line};
 use wasmprinter_text::parens_and_words::open_group;
 

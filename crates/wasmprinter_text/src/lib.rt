@@ -6,11 +6,11 @@
 pub mod annotations;
 pub mod bytes_or_ellipsis;
 pub mod comments;
+pub mod declarations_and_indices;
 mod float_format;
 pub mod floats;
 pub mod hints;
 mod identifiers;
-pub mod indices;
 pub mod limits;
 pub mod lines;
 pub mod numbers;

@@ -6,7 +6,7 @@ ghost use Rattle.wasmprinter_spec.specs.Layout.ValTypes.{type_index_pieces};
 ghost use Rattle.wasmprinter_spec.specs.Layout.Types.{signature_if_any, type_use_pieces};
 ghost use Rattle.wasmprinter_custom.specs.Shown.{names_of_identifiers};
 
-use crate::indices::write_index_group;
+use crate::declarations_and_indices::write_index_group;
 use crate::parens_and_words::write_space;
 use crate::types::write_signature;
 use wasmprinter_custom::{Identifiers, Space};

@@ -12,7 +12,7 @@ ghost use Rattle.wasmprinter_ops.specs.ValTypes.{heap_view, ref_view, val_type_v
 pub mod composite;
 pub mod variables;
 
-use crate::indices::write_index_of;
+use crate::declarations_and_indices::write_index_of;
 use crate::parens_and_words::{
     open_group, open_group_space, write_close_paren, write_space, write_type_word, write_word,
 };

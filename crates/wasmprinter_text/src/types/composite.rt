@@ -8,7 +8,7 @@ ghost use Rattle.wasmprinter_custom.specs.Shown.{identifier_view, names_of_ident
 ghost use Rattle.wasmprinter_ops.specs.Types.{storage_view, field_view, fields_view, composite_view};
 ghost use Rattle.wasmprinter_text.specs.Items.{owned_field, owned_fields};
 
-use crate::indices::{write_declaration_of, write_identifier_space};
+use crate::declarations_and_indices::{write_declaration_of, write_identifier_space};
 use crate::parens_and_words::{
     open_group, open_group_space, open_plain, write_close_paren, write_space, write_word,
 };

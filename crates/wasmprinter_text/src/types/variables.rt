@@ -11,7 +11,7 @@ ghost use Rattle.wasmprinter_custom.specs.Shown.{identifier_view, names_of_ident
 ghost use Rattle.wasmprinter_ops.specs.ValTypes.{val_type_view, val_types_view};
 ghost use Rattle.wasmprinter_text.specs.Variables.{front_pieces, end_pieces, before_next, first_pieces, unnamed_pieces, variable_pieces};
 
-use crate::indices::write_id_and_name_space;
+use crate::declarations_and_indices::write_id_and_name_space;
 use crate::parens_and_words::{open_group, write_close_paren, write_space};
 use crate::types::{write_space_val_type, write_val_type};
 use wasmprinter_custom::{Identifier, Identifiers, Space};
