@@ -23,7 +23,7 @@ use wasmprinter_print::Output;
 use wasmprinter_text::comments::{write_label_block_comment, write_label_line_comment};
 use wasmprinter_text::declarations_and_indices::write_leading_id_and_name;
 use wasmprinter_text::parens_and_words::{open_group, write_close_paren, write_space};
-use wasmprinter_text::signature::{Signatures, write_type_use};
+use wasmprinter_text::type_use::{Signatures, write_type_use};
 
 /// Writes a space and the comment for the label of a block, by the block's number. Blocks are counted from 1.
 #[tactic(auto, unfolding(wasmprinter_spec::specs::Layout::Operators::ending_pieces))]

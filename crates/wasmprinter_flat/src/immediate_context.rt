@@ -12,7 +12,7 @@ use crate::open_labels::OpenLabels;
 use crate::operators::Setting;
 use wasmprinter_custom::{Identifier, Identifiers, Space as NamedSpace};
 use wasmprinter_ops::opcodes_and_shapes::{Role, Space};
-use wasmprinter_text::signature::Signatures;
+use wasmprinter_text::type_use::Signatures;
 
 /// The context in which an operator's immediates are printed.
 #[derive(Drop)]

@@ -26,7 +26,7 @@ use wasmprinter_ops::operator::Immediates;
 use wasmprinter_ops::{HeapType, RefType};
 use wasmprinter_print::Output;
 use wasmprinter_text::numbers::write_signed;
-use wasmprinter_text::signature::Signatures;
+use wasmprinter_text::type_use::Signatures;
 
 /// Writes a space and an index by its shape: a label, or an index into another space.
 #[tactic(auto, unfolding(wasmprinter_spec::specs::Layout::Operators::immediate_pieces, wasmprinter_spec::specs::Layout::Operators::operand_pieces))]

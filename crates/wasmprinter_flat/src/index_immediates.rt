@@ -16,7 +16,7 @@ use wasmprinter_print::Output;
 use wasmprinter_text::declarations_and_indices::write_index;
 use wasmprinter_text::numbers::write_number_word;
 use wasmprinter_text::parens_and_words::write_space;
-use wasmprinter_text::signature::{Signatures, write_type_index};
+use wasmprinter_text::type_use::{Signatures, write_type_index};
 
 /// Writes a space and an index, by its identifier if it has one.
 pub(crate) fn write_operand<O: Output, S: Signatures>(

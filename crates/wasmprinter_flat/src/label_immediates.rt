@@ -17,7 +17,7 @@ use wasmprinter_text::numbers::{
     write_index as write_number, write_number_word, write_space_index,
 };
 use wasmprinter_text::parens_and_words::write_space;
-use wasmprinter_text::signature::Signatures;
+use wasmprinter_text::type_use::Signatures;
 
 /// Writes a space and the identifier of a label. A given identifier has no style, and its name annotation follows if
 /// the name differs from it. A synthesized identifier has the style of names.

@@ -12,7 +12,7 @@ use wasmprinter_ops::opcodes_and_shapes::Space;
 use wasmprinter_print::Output;
 use wasmprinter_text::numbers::{power, write_numbered_word};
 use wasmprinter_text::parens_and_words::write_space;
-use wasmprinter_text::signature::Signatures;
+use wasmprinter_text::type_use::Signatures;
 
 /// Writes a space and a word that ends in a number.
 fn write_numbered<O: Output>(out: &mut O, word: &str, n: u64)

@@ -17,7 +17,7 @@ use wasmprinter_print::Output;
 use wasmprinter_text::hints::write_hint_annotation;
 use wasmprinter_text::lines::write_break_inside;
 use wasmprinter_text::parens_and_words::{write_space, write_word};
-use wasmprinter_text::signature::Signatures;
+use wasmprinter_text::type_use::Signatures;
 
 /// The arrangement of operators.
 #[derive(Clone, Copy, Debug, PartialEq, Eq)]

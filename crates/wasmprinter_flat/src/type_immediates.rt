@@ -17,7 +17,7 @@ use wasmprinter_ops::casts::{cast_source, cast_target};
 use wasmprinter_ops::{HeapType, RefType, ValType, ValTypes};
 use wasmprinter_print::Output;
 use wasmprinter_text::parens_and_words::{open_group_space, write_close_paren, write_space};
-use wasmprinter_text::signature::Signatures;
+use wasmprinter_text::type_use::Signatures;
 use wasmprinter_text::types::{write_heap_type, write_ref_type, write_type_group, write_val_type};
 
 /// Writes a space and one type as a result group.

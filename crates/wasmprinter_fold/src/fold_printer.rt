@@ -16,7 +16,7 @@ use wasmprinter_flat::open_labels::OpenLabels;
 use wasmprinter_flat::operators::Setting;
 use wasmprinter_ops::expression::Expression;
 use wasmprinter_print::FoldingOutput;
-use wasmprinter_text::signature::Signatures;
+use wasmprinter_text::type_use::Signatures;
 
 /// Folds and prints the operators of a module, list by list. Nodes and texts reuse the memory of earlier lists.
 #[derive(Drop)]

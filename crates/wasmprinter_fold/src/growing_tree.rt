@@ -24,7 +24,7 @@ use wasmprinter_flat::open_labels::OpenLabels;
 use wasmprinter_flat::operators::Setting;
 use wasmprinter_ops::expression::Expression;
 use wasmprinter_ops::opcodes_and_shapes::{Listed, Role};
-use wasmprinter_text::signature::Signatures;
+use wasmprinter_text::type_use::Signatures;
 
 /// The nodes of the operators so far, their texts, and the number of values that the labels of the open blocks
 /// expect.

@@ -18,7 +18,7 @@ use wasmprinter_text::lines::{close_group_at, write_break};
 use wasmprinter_text::parens_and_words::{
     open_group_space, write_close_paren, write_space, write_word,
 };
-use wasmprinter_text::signature::Signatures;
+use wasmprinter_text::type_use::Signatures;
 
 /// The nesting depth of the operators of a body.
 const BODY_NESTING: u64 = 2;

@@ -20,7 +20,7 @@ use wasmprinter_ops::composite_types::{FuncType, SubType};
 use wasmprinter_ops::{RefType, ValType};
 use wasmprinter_print::Output;
 use wasmprinter_text::declarations_and_indices::{self, write_declaration_of, write_index_of};
-use wasmprinter_text::signature::{self, Signatures};
+use wasmprinter_text::type_use::{self, Signatures};
 use wasmprinter_text::types;
 use wasmprinter_text::types::composite::write_type_field;
 
@@ -114,7 +114,7 @@ pub(crate) fn write_type_use_in<O: Output>(
     ensures { O.wrote out.old out.new
         (OneSpace ∷ type_use (scope_view O.chosen scope.now) owner index) }
 {
-    signature::write_type_use(out, &scope.identifiers(), owner, &scope.types, index);
+    type_use::write_type_use(out, &scope.identifiers(), owner, &scope.types, index);
 }
 
 /// Writes a reference type.

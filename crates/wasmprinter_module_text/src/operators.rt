@@ -10,7 +10,7 @@ use wasmprinter_flat::operators::{Setting, write_operators};
 use wasmprinter_fold::Folder;
 use wasmprinter_ops::expression::Expression;
 use wasmprinter_print::FoldingOutput;
-use wasmprinter_text::signature::Signatures;
+use wasmprinter_text::type_use::Signatures;
 
 /// Writes the operators of an expression, each after its hint if it has one. They are folded if the options ask for
 /// it and there is a folder. `results` is the number of results of the enclosing function: 0 in a constant expression,

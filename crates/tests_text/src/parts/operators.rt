@@ -15,7 +15,7 @@ use wasmprinter_ops::composite_types::FuncType;
 use wasmprinter_ops::expression::Expression;
 use wasmprinter_print::{PrintFmtWrite, PrintOptions, Printer};
 use wasmprinter_samples::expect_same;
-use wasmprinter_text::signature::Signatures;
+use wasmprinter_text::type_use::Signatures;
 
 /// The types of a module without types.
 #[derive(Drop)]

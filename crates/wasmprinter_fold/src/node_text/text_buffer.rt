@@ -15,7 +15,7 @@ use wasmprinter_print::ansi_sequences::{
     type_sequences,
 };
 use wasmprinter_print::{Print, PrintOptions, Printer};
-use wasmprinter_text::signature::Signatures;
+use wasmprinter_text::type_use::Signatures;
 
 /// An operator of a list, with its place and its branch hint.
 #[derive(Clone, Copy)]

@@ -1,5 +1,5 @@
 use Rattle.wasmprinter_spec.specs.Layout.Types.{type_use_pieces}
-use Rattle.wasmprinter_text.proofs.signature.write_type_use.Goals as goal
+use Rattle.wasmprinter_text.proofs.type_use.write_type_use.Goals as goal
 
 pub returns : goal.returns
 unfolding type_use_pieces
