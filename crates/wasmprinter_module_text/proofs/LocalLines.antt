@@ -11,7 +11,7 @@ use Rattle.wasmprinter_spec.specs.Module.{locals_of}
 use Rattle.wasmprinter_spec.specs.Piece.{Piece, Break}
 use Rattle.wasmprinter_spec.specs.Layout.Functions.{locals_place, local_line, local_pieces}
 use Rattle.wasmprinter_spec.specs.Layout.Variables.{variable_groups}
-use Rattle.wasmprinter_text.specs.declared.types.variables.Before.TheVariants as before
+use Rattle.wasmprinter_text.specs.declared.types.params_and_locals.Before.TheVariants as before
 use Rattle.wasmprinter_text.specs.Variables.{end_pieces, walk_pieces}
 use Rattle.wasmprinter_text.proofs.Walks.{walk-line}
 use Rattle.wasmprinter_module_text.specs.declared.locals.Position.{Position}

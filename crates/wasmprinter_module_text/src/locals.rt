@@ -5,7 +5,7 @@ ghost use Rattle.wasmprinter_spec.specs.Layout.Functions.{locals_place, local_pi
 ghost use Rattle.wasmprinter_ops.specs.ValTypes.{val_type_view};
 ghost use Rattle.wasmprinter_flat.specs.OpenLabels.LabelState.{names_of};
 ghost use Rattle.wasmprinter_text.specs.Variables.{walk_pieces};
-ghost use Rattle.wasmprinter_text.specs.declared.types.variables.Before.TheVariants.{Line};
+ghost use Rattle.wasmprinter_text.specs.declared.types.params_and_locals.Before.TheVariants.{Line};
 ghost use Rattle.wasmprinter_module_text.specs.LocalWalk.{after_one, after_all, local_parts, locals_parts};
 
 use crate::module_scope::Scope;
@@ -13,7 +13,7 @@ use wasmprinter_decoder::{LocalEntry, Locals};
 use wasmprinter_ops::ValType;
 use wasmprinter_print::Output;
 use wasmprinter_text::lines::write_break;
-use wasmprinter_text::types::variables::{Before, close_variables, write_variable};
+use wasmprinter_text::types::params_and_locals::{Before, close_variables, write_variable};
 
 /// The nesting depth of the locals of a function.
 const LOCALS_NESTING: u64 = 2;

@@ -11,8 +11,8 @@ use Rattle.wasmprinter_spec.specs.Layout.Variables.{Variables, Alone, Together, 
 use Rattle.wasmprinter_spec.specs.Layout.Functions.{local_line}
 use Rattle.wasmprinter_ops.specs.ValTypes.{val_type_view, val_types_view}
 use Rattle.wasmprinter_ops.specs.declared.val_types.ValType.{ValType as GivenType}
-use Rattle.wasmprinter_text.specs.declared.types.variables.Before.{Before}
-use Rattle.wasmprinter_text.specs.declared.types.variables.Before.TheVariants as before
+use Rattle.wasmprinter_text.specs.declared.types.params_and_locals.Before.{Before}
+use Rattle.wasmprinter_text.specs.declared.types.params_and_locals.Before.TheVariants as before
 use Rattle.wasmprinter_text.specs.Variables.{end_pieces, before_next, unnamed_pieces, variable_pieces, walk_pieces}
 use Rattle.wasmprinter_text.proofs.TypeLists.{type_list-append}
 

@@ -7,8 +7,8 @@ use Rattle.wasmprinter_spec.specs.Names.{Names}
 use Rattle.wasmprinter_spec.specs.Piece.{Piece, OneSpace, Open, CloseParen}
 use Rattle.wasmprinter_spec.specs.Layout.ValTypes.{type_list}
 use Rattle.wasmprinter_spec.specs.Layout.Variables.{Alone, variables_pieces}
-use Rattle.wasmprinter_text.specs.declared.types.variables.Before.{Before}
-use Rattle.wasmprinter_text.specs.declared.types.variables.Before.TheVariants as before
+use Rattle.wasmprinter_text.specs.declared.types.params_and_locals.Before.{Before}
+use Rattle.wasmprinter_text.specs.declared.types.params_and_locals.Before.TheVariants as before
 
 -- The pieces before a new group.
 abbrev pub front_pieces : Before → List Piece

@@ -10,13 +10,13 @@ ghost use Rattle.wasmprinter_custom.specs.Shown.{names_of_identifiers};
 ghost use Rattle.wasmprinter_ops.specs.ValTypes.{heap_view, ref_view, val_type_view, val_types_view};
 
 pub mod composite;
-pub mod variables;
+pub mod params_and_locals;
 
 use crate::declarations_and_indices::write_index_of;
 use crate::parens_and_words::{
     open_group, open_group_space, write_close_paren, write_space, write_type_word, write_word,
 };
-use crate::types::variables::write_params;
+use crate::types::params_and_locals::write_params;
 use wasmprinter_custom::{Identifiers, Space};
 use wasmprinter_ops::composite_types::FuncType;
 use wasmprinter_ops::{HeapType, RefType, ValType, ValTypes};

@@ -1,7 +1,7 @@
 use Rattle.std.specs.Prelude.{◌+◌, ◌*◌, ◌<◌, ◌^◌, length}
 use Rattle.wasmprinter_spec.specs.Module.{locals_of}
 use Rattle.wasmprinter_flat.specs.OpenLabels.LabelState.{names_of}
-use Rattle.wasmprinter_text.specs.declared.types.variables.Before.TheVariants.{Line}
+use Rattle.wasmprinter_text.specs.declared.types.params_and_locals.Before.TheVariants.{Line}
 use Rattle.wasmprinter_module_text.proofs.LocalLines.{walk_from}
 use Rattle.wasmprinter_module_text.proofs.locals.write_entries.Given as goal
 

@@ -2,9 +2,9 @@ use Rattle.std.proofs.Common.{◌≡◌, ◌+◌, length, codes}
 use Rattle.wasmprinter_spec.specs.Layout.Types.{parameters_of}
 use Rattle.wasmprinter_custom.specs.Shown.{names_of_identifiers}
 use Rattle.wasmprinter_ops.specs.ValTypes.{val_types_view}
-use Rattle.wasmprinter_text.specs.declared.types.variables.Before.TheVariants as before
+use Rattle.wasmprinter_text.specs.declared.types.params_and_locals.Before.TheVariants as before
 use Rattle.wasmprinter_text.specs.Variables.{walk_pieces}
-use Rattle.wasmprinter_text.proofs.types.variables.write_params.Given as goal
+use Rattle.wasmprinter_text.proofs.types.params_and_locals.write_params.Given as goal
 
 abbrev pub invariant-loop-number : goal.invariant-loop-number
 invariant-loop-number g l = record {

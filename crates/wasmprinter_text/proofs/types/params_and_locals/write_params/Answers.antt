@@ -5,7 +5,7 @@ use Rattle.wasmprinter_custom.specs.Shown.{names_of_identifiers}
 use Rattle.wasmprinter_ops.specs.ValTypes.{val_types_view}
 use Rattle.wasmprinter_text.proofs.Counting.{none-left}
 use Rattle.wasmprinter_text.proofs.Walks.{walk-groups, walk-next, walk-none}
-use Rattle.wasmprinter_text.proofs.types.variables.write_params.Goals as goal
+use Rattle.wasmprinter_text.proofs.types.params_and_locals.write_params.Goals as goal
 
 pub returns-then-has_failed : goal.returns-then-has_failed
 returns-then-has_failed g c =
