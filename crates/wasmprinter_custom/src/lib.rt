@@ -6,9 +6,9 @@
 //!   allocating.
 #![tactic(auto)]
 
+mod borrowed_items;
 mod dylink;
 mod dylink_name_list;
-mod encoded_lists;
 mod hints;
 mod identifier_chars;
 mod item_identifiers;
@@ -26,7 +26,7 @@ mod treatment;
 
 pub use dylink::{Content, Dylink, ExportInfo, ImportInfo, MemInfo, Subsection};
 pub use dylink_name_list::DylinkNames;
-pub use encoded_lists::{ItemsIn, ReadFrom, ValueSource};
+pub use borrowed_items::{ItemsIn, ReadFrom, ValueSource};
 pub use hints::{FunctionHints, Hint, Hints, is_hint_section};
 pub use identifier_chars::is_id;
 pub use item_identifiers::{Identifier, Identifiers};
