@@ -7,9 +7,9 @@
 #![tactic(auto)]
 
 mod borrowed_items;
+mod branch_hints;
 mod dylink;
 mod dylink_name_list;
-mod hints;
 mod identifier_chars;
 mod item_identifiers;
 mod name_position_guesses;
@@ -27,7 +27,7 @@ mod treatment;
 pub use dylink::{Content, Dylink, ExportInfo, ImportInfo, MemInfo, Subsection};
 pub use dylink_name_list::DylinkNames;
 pub use borrowed_items::{ItemsIn, ReadFrom, ValueSource};
-pub use hints::{FunctionHints, Hint, Hints, is_hint_section};
+pub use branch_hints::{FunctionHints, Hint, Hints, is_hint_section};
 pub use identifier_chars::is_id;
 pub use item_identifiers::{Identifier, Identifiers};
 pub use name_section::read_names;

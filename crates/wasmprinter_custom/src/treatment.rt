@@ -7,7 +7,7 @@ ghost use Rattle.wasmprinter_spec.specs.Customs.Dylink.{judgement_of};
 ghost use Rattle.wasmprinter_custom.specs.Roles.{treatment_view};
 
 use crate::dylink::{Dylink, DylinkContents};
-use crate::hints::HINT_SECTION;
+use crate::branch_hints::HINT_SECTION;
 use crate::producers::{Producers, have_id_names, read_producers};
 use wasmprinter_bytes::cursor::Cursor;
 
