@@ -13,7 +13,7 @@ ghost use Rattle.wasmprinter_custom.specs.LabelViews.{label_view};
 use crate::name_subsection_ids;
 use crate::subsections_in_use::{SUBSECTIONS, used_subsections};
 use crate::name_position_guesses::Guesses;
-use crate::search::find;
+use crate::sorted_names_search::find;
 use crate::sorted_names_builder::SortedNames;
 use crate::space::Space;
 use std::alloc::{AllocError, Global};

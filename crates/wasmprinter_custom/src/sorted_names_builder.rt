@@ -9,7 +9,7 @@ ghost use Rattle.wasmprinter_custom.specs.declared.names.Key.{Key};
 ghost use Rattle.wasmprinter_custom.specs.declared.names.StoredName.{StoredName};
 
 use crate::names::{Key, StoredName};
-use crate::search::{all_before, position_of};
+use crate::sorted_names_search::{all_before, position_of};
 use std::alloc::{AllocError, Global};
 use std::collections::BTreeMap;
 use std::marker::Model;

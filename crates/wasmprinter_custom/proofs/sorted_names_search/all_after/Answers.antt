@@ -1,6 +1,6 @@
 use Rattle.std.proofs.Common.{arith}
 use Rattle.wasmprinter_custom.proofs.Lookups.{less_by_lt, all_after}
-use Rattle.wasmprinter_custom.proofs.search.all_after.Goals as goal
+use Rattle.wasmprinter_custom.proofs.sorted_names_search.all_after.Goals as goal
 
 pub returns-in-Some : goal.returns-in-Some
 returns-in-Some c = λ t.

@@ -1,7 +1,7 @@
 use Rattle.std.proofs.Common.{◌+◌, subst, arith}
 use Rattle.wasmprinter_custom.specs.Lookups.{AllAreBefore}
 use Rattle.wasmprinter_custom.proofs.Lookups.{less_by_lt, all_before}
-use Rattle.wasmprinter_custom.proofs.search.all_before.Goals as goal
+use Rattle.wasmprinter_custom.proofs.sorted_names_search.all_before.Goals as goal
 
 pub returns-in-Some-get-clause-before : goal.returns-in-Some-get-clause-before
 returns-in-Some-get-clause-before c = λ t.

@@ -1,5 +1,5 @@
 use Rattle.wasmprinter_custom.proofs.Lookups.{found_at}
-use Rattle.wasmprinter_custom.proofs.search.search.Goals as goal
+use Rattle.wasmprinter_custom.proofs.sorted_names_search.search.Goals as goal
 
 pub returns : goal.returns
 returns c =

@@ -1,6 +1,6 @@
 use Rattle.std.proofs.Common.{arith}
 use Rattle.wasmprinter_custom.proofs.Lookups.{same_by_eq, found, none_there}
-use Rattle.wasmprinter_custom.proofs.search.find.Goals as goal
+use Rattle.wasmprinter_custom.proofs.sorted_names_search.find.Goals as goal
 
 pub returns-in-Some : goal.returns-in-Some
 returns-in-Some c =

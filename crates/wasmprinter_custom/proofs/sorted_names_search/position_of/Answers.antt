@@ -5,7 +5,7 @@ use Rattle.std.proofs.lemmas.List.Sorted.{answers_always}
 use Rattle.wasmprinter_custom.specs.Lookups.{stored_at}
 use Rattle.wasmprinter_custom.specs.Views.{key_cmp}
 use Rattle.wasmprinter_custom.proofs.Lookups.{search_at, search_none}
-use Rattle.wasmprinter_custom.proofs.search.position_of.Goals as goal
+use Rattle.wasmprinter_custom.proofs.sorted_names_search.position_of.Goals as goal
 
 pub returns-clause-at : goal.returns-clause-at
 returns-clause-at c =
