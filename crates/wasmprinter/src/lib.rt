@@ -17,8 +17,8 @@ mod file_printing;
 mod file_source;
 mod find_operator_line;
 mod offsets_and_lines;
-mod plain_text_printer;
 pub mod printed_text_laws;
+mod string_printer;
 mod string_printing;
 
 pub use config::Config;

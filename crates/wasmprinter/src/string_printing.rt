@@ -6,7 +6,7 @@ ghost use Rattle.wasmprinter.specs.Printed.{HasText, IsTextOf};
 ghost use Rattle.wasmprinter.specs.Outcome.{without_printer, IsTextRefusal};
 
 use crate::config::Config;
-use crate::plain_text_printer::Plain;
+use crate::string_printer::Plain;
 use std::alloc::Global;
 use wasmprinter_bytes::Error;
 
