@@ -10,8 +10,8 @@ mod line_iterator;
 mod line_tracker;
 mod line_tracker_laws;
 mod no_color;
+mod palette;
 mod termcolor;
-mod terminal_colors;
 mod write_bytes;
 mod write_color;
 
@@ -24,6 +24,6 @@ pub use line_tracker::LineTracker;
 pub use line_tracker_laws::no_line_is_lost;
 pub use no_color::NoColor;
 pub use termcolor::PrintTermcolor;
-pub use terminal_colors::Color;
+pub use palette::Color;
 pub use write_bytes::WriteBytes;
 pub use write_color::WriteColor;
