@@ -1,7 +1,7 @@
 -- The treatment of a custom section that the program's value represents.
 use Rattle.wasmprinter_spec.specs.Customs as d
-use Rattle.wasmprinter_custom.specs.declared.treatment.CustomTreatment.{CustomTreatment}
-use Rattle.wasmprinter_custom.specs.declared.treatment.CustomTreatment.TheVariants as r
+use Rattle.wasmprinter_custom.specs.declared.section_treatment.CustomTreatment.{CustomTreatment}
+use Rattle.wasmprinter_custom.specs.declared.section_treatment.CustomTreatment.TheVariants as r
 
 -- The treatment that the program's value represents.
 abbrev pub treatment_view : CustomTreatment → d.CustomTreatment
