@@ -3,11 +3,11 @@
 #![tactic(auto)]
 
 mod calls;
-mod expected;
 mod option_sets;
+mod refusals_and_expected_results;
 
 pub use calls::{CallsRow, expect_calls, expect_each_calls, expect_recorded};
-pub use expected::{Expected, Refusal, expect_result};
+pub use refusals_and_expected_results::{Expected, Refusal, expect_result};
 pub use option_sets::Options;
 use std::alloc::Global;
 use std::test::Fail;
