@@ -5,7 +5,7 @@ mod candidates;
 mod split_last_node;
 
 pub use builder::Builder;
-pub use split_last_node::{Last, last_group};
+pub use split_last_node::{Last, split_last_node};
 
 /// The text of a node before the nodes that it holds.
 #[derive(Clone, Copy, Debug, PartialEq, Eq)]

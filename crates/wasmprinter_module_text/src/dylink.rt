@@ -2,10 +2,10 @@
 ghost use Rattle.std.specs.Prelude.{[], ◌∷◌, codes, Some};
 ghost use Rattle.wasmprinter_spec.specs.Piece.{Break};
 ghost use Rattle.wasmprinter_spec.specs.Layout.Customs.{note, sizes_group, sizes_pieces, names_pieces, exports_pieces, import_infos_pieces};
-ghost use Rattle.wasmprinter_spec.specs.Layout.Customs.{content_pieces, subsections_pieces};
+ghost use Rattle.wasmprinter_spec.specs.Layout.Customs.{content_pieces, subsections_pieces, space_quoted, space_quoted_list};
 ghost use Rattle.wasmprinter_custom.specs.Contents.{content_view};
 
-use crate::annotation_strings::{LINE_NESTING, SECTION_NESTING, write_space_strings};
+use crate::annotation_nesting::{LINE_NESTING, SECTION_NESTING};
 use crate::symbol_flag_printing::write_flags;
 use wasmprinter_custom::{Content, Dylink, DylinkNames, ExportInfo, ImportInfo, ItemsIn, MemInfo};
 use wasmprinter_print::Output;
@@ -16,6 +16,26 @@ use wasmprinter_text::parens_and_words::{
     open_group, open_group_space, open_plain, write_close_paren, write_space,
 };
 use wasmprinter_text::strings::write_string;
+
+/// Writes a space and a quoted string.
+fn write_space_string<O: Output>(out: &mut O, s: &str)
+    ensures { O.wrote out.old out.new (space_quoted s.now) }
+{
+    write_space(out);
+    write_string(out, s);
+}
+
+/// Writes names as quoted strings, with a space before each.
+pub(crate) fn write_space_strings<O: Output>(out: &mut O, names: &DylinkNames<'_>)
+    ensures { O.wrote out.old out.new (space_quoted_list names.now) }
+{
+    for name in names.iter() {
+        if out.has_failed() {
+            return;
+        }
+        write_space_string(out, name);
+    }
+}
 
 /// Writes a space and a group of a word, a size and an alignment. Writes nothing if both numbers are 0.
 #[tactic(auto, unfolding(wasmprinter_spec::specs::Layout::Customs::sizes_group))]

@@ -4,7 +4,7 @@ ghost use Rattle.std.specs.Vec.{vec_len, vec_capacity};
 ghost use Rattle.wasmprinter_fold.specs.Postorder.{IsPostorder};
 ghost use Rattle.wasmprinter_fold.specs.Tasks.{StacksRow, StacksRest, KeepsSoundRow, KeepsSound, IsSound, steps_left, steps_of, rest_of};
 
-use crate::nodes::{Node, NodeText, last_group};
+use crate::nodes::{Node, NodeText, split_last_node};
 use std::alloc::AllocError;
 
 /// A part of nodes that is still to be written.
@@ -44,7 +44,7 @@ fn put_row<'a>(
     ensures room { vec_len tasks.old + length nodes.now ≤ vec_capacity tasks.old → IsOk result }
 {
     let mut rest = nodes;
-    while let Some(last) = last_group(rest) {
+    while let Some(last) = split_last_node(rest) {
         let leads = leads(first, last.before);
         tasks.push(Task::One(last.node.head, last.parts, leads, depth))?;
         rest = last.before;

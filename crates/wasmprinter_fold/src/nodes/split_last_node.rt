@@ -17,7 +17,7 @@ pub struct Last<'a> {
 }
 
 /// Returns the last node of a row, if there is one.
-pub fn last_group(row: &[Node]) -> Option<Last<'_>>
+pub fn split_last_node(row: &[Node]) -> Option<Last<'_>>
     requires { IsPostorder row.now }
     ensures { MatchOption result (row.now ≡ []) (λ l. IsLast row.now l.before.now l.node l.parts.now) }
 {

@@ -1,5 +1,5 @@
 use Rattle.wasmprinter_spec.specs.Layout.Customs.{space_quoted_list}
-use Rattle.wasmprinter_module_text.proofs.annotation_strings.write_space_strings.Given as goal
+use Rattle.wasmprinter_module_text.proofs.dylink.write_space_strings.Given as goal
 
 abbrev pub invariant-loop-name : goal.invariant-loop-name
 invariant-loop-name g l =

@@ -1,6 +1,6 @@
 use Rattle.std.proofs.Common.{sym, ◌∙◌}
 use Rattle.wasmprinter_module_text.proofs.CustomLists.{names-none, names-next}
-use Rattle.wasmprinter_module_text.proofs.annotation_strings.write_space_strings.Goals as goal
+use Rattle.wasmprinter_module_text.proofs.dylink.write_space_strings.Goals as goal
 
 pub loop-name-preserved : goal.loop-name-preserved
 loop-name-preserved g c = λ t w.
