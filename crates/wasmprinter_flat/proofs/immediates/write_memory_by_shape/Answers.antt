@@ -1,6 +1,0 @@
-use Rattle.wasmprinter_spec.specs.Layout.Operators.{immediate_pieces}
-use Rattle.wasmprinter_flat.proofs.immediates.write_memory_by_shape.Goals as goal
-
-pub returns : goal.returns
-unfolding immediate_pieces
-returns g c = rw c.in-Memory.is c.write_mem_arg.ensures
