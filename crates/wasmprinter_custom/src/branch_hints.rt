@@ -10,8 +10,8 @@ use crate::borrowed_items::{ItemsIn, ReadFrom};
 use std::marker::Model;
 use wasmprinter_bytes::Malformed;
 use wasmprinter_bytes::cursor::Cursor;
-use wasmprinter_bytes::lazy_items::{Items, no_items, read_items};
 use wasmprinter_bytes::decode_traits::Decode;
+use wasmprinter_bytes::lazy_items::{Items, no_items, read_items};
 
 /// The name of sections with branch hints. If there are several, the last one counts.
 pub(crate) const HINT_SECTION: &str = "metadata.code.branch_hint";

@@ -6,8 +6,8 @@ ghost use Rattle.wasmprinter_spec.specs.Customs.Producers.{producers};
 ghost use Rattle.wasmprinter_spec.specs.Customs.Dylink.{judgement_of};
 ghost use Rattle.wasmprinter_custom.specs.Roles.{treatment_view};
 
-use crate::dylink::{Dylink, DylinkContents};
 use crate::branch_hints::HINT_SECTION;
+use crate::dylink::{Dylink, DylinkContents};
 use crate::producers::{Producers, have_id_names, read_producers};
 use wasmprinter_bytes::cursor::Cursor;
 

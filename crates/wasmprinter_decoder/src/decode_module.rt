@@ -10,6 +10,7 @@ ghost use Rattle.wasmprinter_decoder.specs.Gathering.{none_gathered, with_sectio
 ghost use Rattle.wasmprinter_decoder.specs.Decoding.{IsRefusal, HoldsNothing, TakesModule};
 
 use crate::code::Body;
+use crate::custom_section_positions::{CustomEntry, SectionKind};
 use crate::data_segments::Data;
 use crate::elements::Element;
 use crate::exports::Export;
@@ -17,7 +18,6 @@ use crate::globals::Global as GlobalVariable;
 use crate::imports::Import;
 use crate::memories::Memory;
 use crate::module::Module;
-use crate::custom_section_positions::{CustomEntry, SectionKind};
 use crate::sections::Section;
 use crate::start::Start;
 use crate::tables::Table;

@@ -6,14 +6,14 @@ ghost use Rattle.wasmprinter_decoder.specs.Externs.{kind_view, imported_count};
 ghost use Rattle.wasmprinter_decoder.specs.Modules.{body_at};
 
 use crate::code::Body;
+use crate::custom_section_positions::CustomEntry;
 use crate::data_segments::Data;
+use crate::defined_function::Function;
 use crate::elements::Element;
 use crate::exports::{Export, ExternKind};
-use crate::defined_function::Function;
 use crate::globals::Global;
 use crate::imports::Import;
 use crate::memories::Memory;
-use crate::custom_section_positions::CustomEntry;
 use crate::start::Start;
 use crate::tables::Table;
 use crate::tags::Tag;

@@ -6,6 +6,7 @@ ghost use Rattle.wasmprinter_decoder.specs.Places.{after_view};
 ghost use Rattle.wasmprinter_decoder.specs.Sections.{section_view, TakesContent, TakesSection};
 
 use crate::code::{Body, read_code};
+use crate::custom_section_positions::SectionKind;
 use crate::custom_sections::Custom;
 use crate::data_segments::{Data, read_data, read_data_count};
 use crate::elements::{Element, read_elements};
@@ -14,7 +15,6 @@ use crate::function_section::read_functions;
 use crate::globals::{Global as GlobalVariable, read_globals};
 use crate::imports::{Import, read_imports};
 use crate::memories::{Memory, read_memories};
-use crate::custom_section_positions::SectionKind;
 use crate::start::{Start, read_start};
 use crate::tables::{Table, read_tables};
 use crate::tags::{Tag, read_tags};

@@ -7,8 +7,8 @@ mod option_sets;
 mod refusals_and_expected_results;
 
 pub use calls::{CallsRow, expect_calls, expect_each_calls, expect_recorded};
-pub use refusals_and_expected_results::{Expected, Refusal, expect_result};
 pub use option_sets::Options;
+pub use refusals_and_expected_results::{Expected, Refusal, expect_result};
 use std::alloc::Global;
 use std::test::Fail;
 use wasmprinter::print::{Ansi, PrintTermcolor};

@@ -23,13 +23,13 @@ pub use folded_trees::{
     folding_loses_nothing, nested_operators_are_folded, nested_operators_have_trees,
     operands_are_the_shortest_run, trees_say_their_lists,
 };
-pub use literals_read_back::{
-    alike_calls_have_one_text, float_text_reads, floats_are_exact, quoted_bytes_read,
-    quoted_text_reads,
-};
 pub use line_places::{
     alike_calls_have_the_same_lines, bodies_lie_apart, finds_lines, finds_places,
     functions_have_lines, lines_begin_after_feeds, lines_join_to_the_text,
+};
+pub use literals_read_back::{
+    alike_calls_have_one_text, float_text_reads, floats_are_exact, quoted_bytes_read,
+    quoted_text_reads,
 };
 pub use text_reads_back::{
     bytes_spell_at_most_one_module, entries_are_given, folded_groups_are_nodes,

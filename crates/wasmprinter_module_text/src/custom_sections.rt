@@ -11,8 +11,8 @@ use crate::dylink::write_dylink;
 use crate::producers::write_producers;
 use crate::raw::{write_malformed, write_raw};
 use wasmprinter_custom::{CustomTreatment, custom_treatment};
-use wasmprinter_decoder::custom_sections::Custom;
 use wasmprinter_decoder::custom_section_positions::{CustomEntry, SectionKind};
+use wasmprinter_decoder::custom_sections::Custom;
 use wasmprinter_print::Output;
 
 /// Returns the treatment of a section in the text.

@@ -7,8 +7,8 @@ ghost use Rattle.wasmprinter_ops.specs.Blocks.{block_type_view, catch_at, catche
 use crate::{ValType, begins_type, read_type, read_type_index};
 use wasmprinter_bytes::Malformed;
 use wasmprinter_bytes::cursor::Cursor;
-use wasmprinter_bytes::lazy_items::{Items, read_items};
 use wasmprinter_bytes::decode_traits::Decode;
+use wasmprinter_bytes::lazy_items::{Items, read_items};
 
 /// The byte that encodes the type of a block without parameters and results.
 const EMPTY: u8 = 0x40;

@@ -14,8 +14,8 @@ use crate::val_types::{First, ValType, ValTypes, read_types};
 use std::marker::Model;
 use wasmprinter_bytes::Malformed;
 use wasmprinter_bytes::cursor::Cursor;
-use wasmprinter_bytes::lazy_items::{Items, no_items, read_items};
 use wasmprinter_bytes::decode_traits::{Decode, DecodeIn};
+use wasmprinter_bytes::lazy_items::{Items, no_items, read_items};
 
 /// The byte before the field type of an array type.
 const ARRAY: u8 = 0x5e;

@@ -10,8 +10,8 @@ ghost use Rattle.wasmprinter_ops.specs.ValTypes.{heap_view, ref_view, val_type_v
 
 use wasmprinter_bytes::Malformed;
 use wasmprinter_bytes::cursor::Cursor;
-use wasmprinter_bytes::lazy_items::{Items, read_items};
 use wasmprinter_bytes::decode_traits::Decode;
+use wasmprinter_bytes::lazy_items::{Items, read_items};
 
 /// The byte before the heap type of a reference that can't be null.
 const REF: u8 = 0x64;

@@ -14,9 +14,9 @@ mod style;
 
 pub use fmt_write::{PrintFmtWrite, WriteText};
 pub use halt::Halt;
-pub use options::PrintOptions;
 pub use layout_output::{FoldingOutput, Output};
+pub use options::PrintOptions;
 pub use print::Print;
+pub use print_text::{PrintText, text_is_gained};
 pub use printer::{LayoutOptions, Printer};
 pub use style::Style;
-pub use print_text::{PrintText, text_is_gained};

@@ -23,7 +23,7 @@ pub use line_iterator::{LineStart, OffsetsAndLines};
 pub use line_tracker::LineTracker;
 pub use line_tracker_laws::no_line_is_lost;
 pub use no_color::NoColor;
-pub use termcolor::PrintTermcolor;
 pub use palette::Color;
+pub use termcolor::PrintTermcolor;
 pub use write_bytes::WriteBytes;
 pub use write_color::WriteColor;

@@ -1,6 +1,6 @@
 //! Opcodes with the prefix FC: saturating truncation, bulk operators on memories and tables, wide arithmetic.
-use crate::opcodes_and_shapes::{Arity, Shape, Space};
 use crate::opcode_tables::Entry;
+use crate::opcodes_and_shapes::{Arity, Shape, Space};
 
 /// The opcodes with the prefix FC, by their numbers.
 #[rattlefmt::skip]
