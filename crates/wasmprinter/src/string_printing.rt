@@ -25,8 +25,8 @@ impl Config {
     /// Returns the text of a module in the binary format. The bytes then encode a module.
     ///
     /// If the indent consists of spaces and tabs, the text contains only tabs, line feeds and the characters from the
-    /// space to the tilde. If `skeleton` is off too, the text has exactly the module's branch hints, if these are valid,
-    /// and reads back as the module, if every index that the module uses is declared.
+    /// space to the tilde. If `skeleton` is off too, the text has exactly the module's branch hints, if these are
+    /// valid, and reads back as the module, if every index that the module uses is declared.
     ///
     /// With a module `IDENTITY` whose only function returns its parameter:
     ///

@@ -17,7 +17,7 @@ pub fn bytes_spell_at_most_one_module()
 {}
 
 /// The test of nesting that the reader of text uses accepts operators exactly if they are well nested: each block ends
-/// with `end`, or a `try` with `delegate`, and `else`, `catch` and `catch_all` occur only where their block allows them.
+/// with `end`, or a `try` with `delegate`; `else`, `catch` and `catch_all` occur only where their block allows them.
 pub fn reader_takes_nested_operators()
     ensures { TakesNested }
 {}
