@@ -93,7 +93,8 @@ impl<'a> Cursor<'a> {
         self.place
     }
 
-    /// Returns the place after the last of this cursor's bytes: a byte offset from the start of the module.
+    /// Returns the place after the last byte: a byte offset from the start of the module.
+    /// The last byte is that of this cursor, which may end before the module does.
     pub fn end(&self) -> u64
         ensures { result ≡ end_of self.now }
     {
@@ -121,8 +122,8 @@ impl<'a> Cursor<'a> {
         self.rest
     }
 
-    /// Returns a second cursor over the same bytes, at the same place. Every cursor ends at a place below 2^64
-    /// (`fits`).
+    /// Returns a second cursor at the same place.
+    /// It has the same bytes. Every cursor ends at a place below 2^64 (`fits`).
     pub fn fork(&self) -> Cursor<'a>
         ensures same { result ≡ self.now }
         ensures fits { end_of self.now < 2 ^ 64 }

@@ -169,7 +169,7 @@ impl<'a> NamesBuilder<'a> {
         Ok(())
     }
 
-    /// Returns the names that were added.
+    /// Returns the names that were added. If entries give several names to an item, the last one counts.
     ///
     /// # Errors
     ///

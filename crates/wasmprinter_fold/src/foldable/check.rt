@@ -61,8 +61,7 @@ fn check_printed_hints(options: &PrintOptions, module: &Module<'_>) -> Result<()
 /// - `FoldLegacy` with the place of the first `try`, `catch`, `catch_all` or `delegate` in the lists of operators that
 ///   are printed, in the order of the bytes.
 /// - `FoldHint`, if there is no such operator, with the place of the first branch hint on a `block`, `loop`,
-/// `try_table`,
-///   `else` or `end` of the bodies that are printed, in the order of the operators.
+///   `try_table`, `else` or `end` of the bodies that are printed, in the order of the operators.
 pub fn check_folding(options: &PrintOptions, module: &Module<'_>) -> Result<(), Error>
     ensures legacy { IfOk result (λ _. legacy_places options.now module.now ≡ []) }
     ensures hints { IfOk result (λ _. misplaced_hints options.now module.now ≡ []) }

@@ -40,8 +40,8 @@ pub struct Frame {
 /// Builds the nodes of a list of operators, one operator after another.
 ///
 /// All nodes are in one list, and no node is ever moved: an operator is added after its operands, and its size
-/// counts them. Operands are searched in a second list, which has an entry for each node that a later operator may
-/// take. After an error the nodes are unusable until the list is cleared.
+/// counts them. Operands are searched in a second list, which has an entry for each node that a later operator may take.
+/// After an error the nodes are unusable until the list is cleared.
 #[derive(Drop)]
 pub struct Builder {
     nodes: Vec<Node>,
