@@ -99,7 +99,8 @@ impl Builder {
     ghost use Rattle.wasmprinter_fold.specs.Building.{start, step, Top, Plain, Opens, OpensIf, Else, Ends};
     ghost use Rattle.wasmprinter_fold.specs.Frames.{State, Represents};
 
-    /// Creates a builder without nodes. This allocates no memory.
+    /// Creates a builder without nodes. It represents the first state: no nodes and no open block. This allocates no
+    /// memory.
     pub fn new(alloc: Global) -> Builder
         ensures { Represents result start }
     {
@@ -110,7 +111,7 @@ impl Builder {
         }
     }
 
-    /// Removes all nodes and keeps the capacity.
+    /// Removes all nodes and keeps the capacity. The builder then represents the first state: no nodes and no open block.
     pub fn clear(&mut self)
         ensures { Represents self.new start }
     {

@@ -128,8 +128,8 @@ pub fn end_of(row: &[Candidate], end: usize) -> Cut
 }
 
 /// Returns where the operands of a plain operator begin, and the number of results of its node. `end` is the number of
-/// all nodes. If no operands are found, the position is after all nodes. The number of results is then `results`, or the
-/// greatest 32-bit number if the operands would begin inside the results of one node.
+/// all nodes. If no operands are found, the position is after all nodes. The number of results is then `results`, or
+/// the greatest 32-bit number if the operands would begin inside the results of one node.
 pub fn operands_cut(row: &[Candidate], end: usize, operands: u32, results: u32) -> (Cut, u32)
     requires { (first : ℕ) × (f : NodesOf NodeText) × IsEndOf row.now end first f }
     ensures { (first : ℕ) (f : NodesOf NodeText) → IsEndOf row.now end first f →
