@@ -51,7 +51,8 @@ fn take_hint(hints: &mut FunctionHints<'_>, offset: u64) -> Option<bool>
 }
 
 impl GrowingTree {
-    /// Creates a tree without nodes. `color` says whether its texts have ANSI escape sequences. This allocates no memory.
+    /// Creates a tree without nodes. `color` says whether its texts have ANSI escape sequences. This allocates no
+    /// memory.
     pub fn new(alloc: Global, color: bool) -> GrowingTree
         ensures { result.texts.color ≡ color }
     {

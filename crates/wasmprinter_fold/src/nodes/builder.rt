@@ -111,7 +111,8 @@ impl Builder {
         }
     }
 
-    /// Removes all nodes and keeps the capacity. The builder then represents the first state: no nodes and no open block.
+    /// Removes all nodes and keeps the capacity. The builder then represents the first state: no nodes and no open
+    /// block.
     pub fn clear(&mut self)
         ensures { Represents self.new start }
     {
