@@ -19,7 +19,7 @@ impl Config {
     ///
     /// # Errors
     ///
-    /// The errors of [`Config::print_to_string`], each only for the cause that is listed there.
+    /// The errors of [`Config::print_to_string`], with the causes that are listed there.
     pub fn print_to_ansi(&self, alloc: Global, wasm: &[u8]) -> Result<Vec<u8>, Error>
         ensures printed { IfOk result (λ text. HasColoredTextBy self.now wasm.now text.items) }
         ensures refused { IfErr result (IsTextRefusal self.now wasm.now) }

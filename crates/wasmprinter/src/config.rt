@@ -178,8 +178,8 @@ impl Config {
     ///
     /// # Errors
     ///
-    /// Each error is returned only for the cause that is listed here (`refused`). The calls that the printer received
-    /// are as listed too (`left`).
+    /// Each error has the cause that is listed here (`refused`); of `Memory`, the contract says only when an allocation
+    /// is possible. The calls that the printer received are as listed too (`left`).
     ///
     /// The printer receives no call before these errors:
     ///

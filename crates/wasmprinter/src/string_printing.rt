@@ -39,8 +39,8 @@ impl Config {
     ///
     /// # Errors
     ///
-    /// The errors of [`Config::print`], each only for the cause that is listed there, except that `Printer` is never
-    /// returned. `Memory` is also returned if the text can't grow.
+    /// The errors of [`Config::print`], with the causes that are listed there, except that `Printer` is never returned.
+    /// `Memory` is also returned if the text can't grow.
     pub fn print_to_string(&self, alloc: Global, wasm: &[u8]) -> Result<String, Error>
         ensures printed { IfOk result (λ text. IsTextOf self.now wasm.now (string_bytes text)) }
         ensures refused { IfErr result (IsTextRefusal self.now wasm.now) }

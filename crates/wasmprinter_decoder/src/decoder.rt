@@ -234,7 +234,8 @@ fn read_module<'a>(alloc: Global, wasm: &'a [u8]) -> Result<Module<'a>, Error>
 ///
 /// # Errors
 ///
-/// Each error is returned only for the cause that is listed here (`refused`).
+/// Each error has the cause that is listed here (`refused`); of `Memory`, the contract says only when an allocation is
+/// possible.
 ///
 /// - `Component` if the bytes are marked as a component. This error takes precedence over the others.
 /// - `Malformed` if the bytes do not encode a module.
