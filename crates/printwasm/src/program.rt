@@ -68,6 +68,10 @@ impl Model for Choice {
 }
 
 /// Runs the program with all its arguments, of which the first is its own name, and returns the exit status.
+///
+/// The arguments without the first are the words. With these words the statuses and writes are those of [`run`]. If
+/// the words can't be read, or an allocation fails while they are read, the status is 1: one line that reports this
+/// error is written to `err`, and nothing to `out`. A failed write to `err` does not change the status.
 pub fn launch<S, R, I, O, E>(
     source: &S,
     renderer: &R,
@@ -96,6 +100,9 @@ where
 
 /// Runs the program with its words, or with the error for which they can't be read, and returns the exit status.
 /// `words` does not contain the program's name: it is the result of [`words_of`].
+///
+/// With words, the statuses and writes are those of [`run`]. With an error, the status is 1: one line that reports
+/// this error is written to `err`, and nothing to `out`. A failed write to `err` does not change the status.
 pub fn start<S, R, O, E>(
     source: &S,
     renderer: &R,
@@ -141,10 +148,16 @@ pub fn words_of<I: Iterator<Item = String>>(
     Ok(args?.skip(1).collect(alloc)?)
 }
 
-/// Prints the module in the file that the arguments name, and returns the exit status: 0 if the text was written, 1
-/// after an error, 2 if the arguments are wrong. `words` does not contain the program's name.
+/// Prints the module in the file that the arguments name, and returns the exit status. `words` does not contain the
+/// program's name. The statuses are:
 ///
-/// Nothing is written to `out` before the text is complete. After an error, one line is written to `err`.
+/// - 0: the text of the file's module was written to `out` in one write, which succeeded. `err` is unchanged.
+/// - 1: the file can't be read or its module can't be printed, and `out` is unchanged; or the one write of the text
+///   to `out` failed. A line that reports the error was written to `err`.
+/// - 2: the words do not name exactly one file, or one of them is an unknown option. The usage line was written to
+///   `err`. `out` is unchanged.
+///
+/// Each line is written to `err` in one write; if that write fails, the status stays the same.
 pub fn run<S: Source, R: Render<Error>, O: Sink, E: Sink>(
     source: &S,
     renderer: &R,

@@ -14,9 +14,12 @@ impl Config {
     /// Returns the text of a module in the binary format, with the ANSI escape sequences that
     /// [`crate::print::Ansi`] writes.
     ///
+    /// The bytes then encode a module, and the text has the sequences of every style. If the indent consists of spaces
+    /// and tabs, deleting the sequences gives the text that [`Config::print_to_string`] returns.
+    ///
     /// # Errors
     ///
-    /// The errors of [`Config::print_to_string`].
+    /// The errors of [`Config::print_to_string`], with the causes that are listed there.
     pub fn print_to_ansi(&self, alloc: Global, wasm: &[u8]) -> Result<Vec<u8>, Error>
         ensures printed { IfOk result (λ text. HasColoredTextBy self.now wasm.now text.items) }
         ensures refused { IfErr result (IsTextRefusal self.now wasm.now) }

@@ -46,7 +46,7 @@ impl Config {
 
     /// Sets whether each line after the first begins with its place: a byte offset from the start of the module,
     /// in hexadecimal and in a comment such as `(;@1f    ;)`. A line without a place begins with that many spaces
-    /// instead. Allocates nothing.
+    /// instead. Returns `self`; the other options stay as they are. Allocates nothing.
     ///
     /// With a module `IDENTITY` whose only function returns its parameter:
     ///
@@ -65,7 +65,7 @@ impl Config {
     }
 
     /// Sets whether bodies, items of element segments, and bytes of data segments and custom sections are left
-    /// out. Allocates nothing.
+    /// out. Returns `self`; the other options stay as they are. Allocates nothing.
     ///
     /// With a module `IDENTITY` whose only function returns its parameter:
     ///
@@ -84,7 +84,8 @@ impl Config {
         self
     }
 
-    /// Sets whether identifiers are synthesized for items without a name, for example `$#func3`. Allocates nothing.
+    /// Sets whether identifiers are synthesized for items without a name, for example `$#func3`. Returns `self`; the
+    /// other options stay as they are. Allocates nothing.
     ///
     /// With a module `IDENTITY` whose only function returns its parameter:
     ///
@@ -103,7 +104,8 @@ impl Config {
     }
 
     /// Sets whether operators are folded: each operator is printed in parentheses with its operands (section 6.5,
-    /// "Folded Instructions"), in bodies and in constant expressions. Allocates nothing.
+    /// "Folded Instructions"), in bodies and in constant expressions. Returns `self`; the other options stay as they
+    /// are. Allocates nothing.
     ///
     /// With a module `IDENTITY` whose only function returns its parameter:
     ///
@@ -122,7 +124,7 @@ impl Config {
     }
 
     /// Sets the text of one level of nesting, by default two spaces. A line is indented by at most 50 levels.
-    /// Allocates nothing.
+    /// Returns `self`; the other options stay as they are. Allocates nothing.
     ///
     /// The text is printed unchanged. If it has characters other than spaces and tabs, the printed module is not
     /// guaranteed to read back.
@@ -163,6 +165,11 @@ impl Config {
     /// The printer is asked whether it claims each custom section, `name` and `metadata.code.branch_hint` included.
     /// A claimed section is not printed; its names and hints still apply.
     ///
+    /// On `Ok`, the bytes encode a module, and the printer received the calls of the module's text (`printed`). If the
+    /// indent consists of spaces and tabs, and `skeleton` is off, that text without ANSI escape sequences has exactly
+    /// the module's branch hints, if these are valid. It also reads back as the module, if every index that the module
+    /// uses is declared and no custom section was claimed.
+    ///
     /// ```
     /// let mut printer = PrintIoWrite(Vec::new(rt.alloc()));
     /// Config::new().print(rt.alloc(), b"\0asm\x01\0\0\0", &mut printer)?;
@@ -170,6 +177,9 @@ impl Config {
     /// ```
     ///
     /// # Errors
+    ///
+    /// Each error has the cause that is listed here (`refused`); of `Memory`, the contract says only when an allocation
+    /// is possible. The calls that the printer received are as listed too (`left`).
     ///
     /// The printer receives no call before these errors:
     ///

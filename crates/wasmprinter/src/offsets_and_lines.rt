@@ -18,7 +18,8 @@ impl Config {
     /// A [`LineStart`] holds the line's place, a byte offset from the start of the module, and the byte offset in
     /// `storage` of the line's first byte. [`OffsetsAndLines::new`] makes an iterator over the lines from
     /// `storage` and the line starts; [`Config::offsets_and_lines`] does both steps. The old text of `storage`
-    /// stays before the first line.
+    /// stays before the first line. The lines, joined, are the text that [`Config::print_to_string`] returns (`lines`).
+    /// The line starts do not decrease, and each is at a character boundary of `storage` (`boundaries`).
     ///
     /// Unlike the contract of [`Config::offsets_and_lines`], the contract of this method says what `storage` holds
     /// after an error.
@@ -59,7 +60,8 @@ impl Config {
     ///
     /// The place of a line is a byte offset from the start of the module, or `None` if the line shows nothing of
     /// the module. Each line ends with its line feed. The old text of `storage` stays before the first line and is
-    /// part of no line. Iterating allocates nothing.
+    /// part of no line. The lines, joined, are the text that [`Config::print_to_string`] returns. Iterating allocates
+    /// nothing.
     ///
     /// With a module `IDENTITY` whose only function returns its parameter:
     ///

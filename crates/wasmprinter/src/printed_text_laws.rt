@@ -21,8 +21,8 @@ pub fn colors_add_sequences_alone<V: Write, W: Write>()
         → GainAlike (V.contents s.0.inner) (V.contents t.0.inner) (W.contents x.0.inner) (W.contents y.0.inner) }
 {}
 
-/// If each write that succeeds appends its bytes to a view of a `PrintText`, then printing that succeeds appends the
-/// module's text to the view.
+/// For any function `view` from a `PrintText` to bytes: if each write that succeeds appends its bytes to the view, then
+/// printing that succeeds appends the module's text to the view.
 pub fn text_printers_gain_the_text<T: PrintText>()
     ensures { (view : T → List ℕ) → Grows view T.writes → (o : _) (bytes : List ℕ) (s t : T)
         → Printed (change ⟦<T as Print>⟧.meaning s t) (⟦<T as Print>⟧.colors s) o bytes

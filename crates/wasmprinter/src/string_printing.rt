@@ -22,7 +22,11 @@ pub(crate) fn without_printer(error: Error) -> Error
 }
 
 impl Config {
-    /// Returns the text of a module in the binary format.
+    /// Returns the text of a module in the binary format. The bytes then encode a module.
+    ///
+    /// If the indent consists of spaces and tabs, the text contains only tabs, line feeds and the characters from the
+    /// space to the tilde. If `skeleton` is off too, the text has exactly the module's branch hints, if these are
+    /// valid, and reads back as the module, if every index that the module uses is declared.
     ///
     /// With a module `IDENTITY` whose only function returns its parameter:
     ///
@@ -35,8 +39,8 @@ impl Config {
     ///
     /// # Errors
     ///
-    /// The errors of [`Config::print`], except that `Printer` is never returned. `Memory` is also returned if the
-    /// text can't grow.
+    /// The errors of [`Config::print`], with the causes that are listed there, except that `Printer` is never returned.
+    /// `Memory` is also returned if the text can't grow.
     pub fn print_to_string(&self, alloc: Global, wasm: &[u8]) -> Result<String, Error>
         ensures printed { IfOk result (λ text. IsTextOf self.now wasm.now (string_bytes text)) }
         ensures refused { IfErr result (IsTextRefusal self.now wasm.now) }
@@ -50,7 +54,9 @@ impl Config {
     }
 }
 
-/// Returns the text of a module in the binary format, with the default options.
+/// Returns the text of a module in the binary format, with the default options. The bytes then encode a module, and
+/// the text contains only tabs, line feeds and the characters from the space to the tilde. It reads back as the
+/// module, if every index that the module uses is declared.
 ///
 /// ```
 /// let text = print_bytes(rt.alloc(), b"\0asm\x01\0\0\0")?;

@@ -94,6 +94,7 @@ impl<'a> Cursor<'a> {
     }
 
     /// Returns the place after the last byte: a byte offset from the start of the module.
+    /// The last byte is that of this cursor, which may end before the module does.
     pub fn end(&self) -> u64
         ensures { result ≡ end_of self.now }
     {
@@ -122,6 +123,7 @@ impl<'a> Cursor<'a> {
     }
 
     /// Returns a second cursor at the same place.
+    /// It has the same bytes. Every cursor ends at a place below 2^64 (`fits`).
     pub fn fork(&self) -> Cursor<'a>
         ensures same { result ≡ self.now }
         ensures fits { end_of self.now < 2 ^ 64 }
@@ -160,7 +162,8 @@ impl<'a> Cursor<'a> {
         self.rest = rest;
     }
 
-    /// Reads a byte.
+    /// Reads a byte. On `Ok`, the result and the new place are those that the grammar gives. After an error,
+    /// the cursor may have advanced.
     ///
     /// # Errors
     ///
@@ -177,7 +180,8 @@ impl<'a> Cursor<'a> {
         }
     }
 
-    /// Reads `len` bytes.
+    /// Reads `len` bytes. On `Ok`, the result and the new place are those that the grammar gives. After an
+    /// error, the cursor may have advanced.
     ///
     /// # Errors
     ///
@@ -194,7 +198,7 @@ impl<'a> Cursor<'a> {
         Ok(bytes)
     }
 
-    /// Returns a cursor over the next `len` bytes only, and advances past them.
+    /// Returns a cursor over the next `len` bytes only, at the same place, and advances past them.
     ///
     /// # Errors
     ///
@@ -279,7 +283,8 @@ impl<'a> Cursor<'a> {
         }
     }
 
-    /// Reads an unsigned 32-bit number.
+    /// Reads an unsigned 32-bit number. On `Ok`, the result and the new place are those that the grammar gives.
+    /// After an error, the cursor may have advanced.
     ///
     /// # Errors
     ///
@@ -295,7 +300,8 @@ impl<'a> Cursor<'a> {
         Ok(number as u32)
     }
 
-    /// Reads an unsigned 64-bit number.
+    /// Reads an unsigned 64-bit number. On `Ok`, the result and the new place are those that the grammar gives.
+    /// After an error, the cursor may have advanced.
     ///
     /// # Errors
     ///
@@ -309,7 +315,8 @@ impl<'a> Cursor<'a> {
         self.unsigned(u64::BITS)
     }
 
-    /// Reads a signed 32-bit number.
+    /// Reads a signed 32-bit number. On `Ok`, the result and the new place are those that the grammar gives.
+    /// After an error, the cursor may have advanced.
     ///
     /// # Errors
     ///
@@ -324,7 +331,8 @@ impl<'a> Cursor<'a> {
         Ok(number as i32)
     }
 
-    /// Reads a signed 33-bit number.
+    /// Reads a signed 33-bit number. On `Ok`, the result and the new place are those that the grammar gives.
+    /// After an error, the cursor may have advanced.
     ///
     /// # Errors
     ///
@@ -337,7 +345,8 @@ impl<'a> Cursor<'a> {
         self.signed(i32::BITS + 1)
     }
 
-    /// Reads a signed 64-bit number.
+    /// Reads a signed 64-bit number. On `Ok`, the result and the new place are those that the grammar gives.
+    /// After an error, the cursor may have advanced.
     ///
     /// # Errors
     ///
@@ -348,7 +357,8 @@ impl<'a> Cursor<'a> {
         self.signed(i64::BITS)
     }
 
-    /// Reads a name: a length, and that many bytes of UTF-8.
+    /// Reads a name: a length, and that many bytes of UTF-8. On `Ok`, the result and the new place are those
+    /// that the grammar gives. After an error, the cursor may have advanced.
     ///
     /// # Errors
     ///

@@ -43,7 +43,8 @@ pub trait DecodeIn<'a>: Drop {
         ensures { Decodes (λ x. x) parse cursor.old result cursor.new };
 }
 
-/// Reads a count and that many values, and returns the values in memory.
+/// Reads a count and that many values, and returns the values in memory. On `Ok`, the result and the new place
+/// are those that the grammar gives. After an error, the cursor may have advanced.
 ///
 /// # Errors
 ///
@@ -80,7 +81,9 @@ pub trait GrownIn<'a>: Drop {
         ensures { Takes (λ x. x) (reader parse grows) cursor.old result cursor.new };
 }
 
-/// Reads a count and that many values for which reading may allocate, and returns the values in memory.
+/// Reads a count and that many values for which reading may allocate, and returns the values in memory. On
+/// `Ok`, the result and the new place are those that the grammar gives. After an error, the cursor may have
+/// advanced.
 ///
 /// # Errors
 ///

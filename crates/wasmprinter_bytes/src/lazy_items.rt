@@ -41,7 +41,8 @@ pub fn no_items<'a, T: Decode>(cursor: &Cursor<'a>) -> Items<'a, T>
     }
 }
 
-/// Reads a list: a count, and that many values.
+/// Reads a list: a count, and that many values. On `Ok`, the result and the new place are those that the
+/// grammar gives. After an error, the cursor may have advanced.
 ///
 /// # Errors
 ///

@@ -133,7 +133,7 @@ fn read_subsections<'a>(
 }
 
 /// Adds the names that the data of a name section gives, up to the first error in it.
-/// Several sections are added in order.
+/// Several sections are added in order: on `Ok`, the builder holds its old entries and then those of this section.
 ///
 /// # Errors
 ///

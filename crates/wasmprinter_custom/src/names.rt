@@ -127,7 +127,7 @@ pub struct NamesBuilder<'a> {
 impl<'a> NamesBuilder<'a> {
     ghost use Rattle.wasmprinter_custom.specs.Holds.{Holds};
 
-    /// Returns an empty builder.
+    /// Returns an empty builder: it holds no entries.
     pub fn new(alloc: Global) -> Self
         ensures { Holds [] result }
     {
@@ -169,7 +169,7 @@ impl<'a> NamesBuilder<'a> {
         Ok(())
     }
 
-    /// Returns the names that were added.
+    /// Returns the names that were added. If entries give several names to an item, the last one counts.
     ///
     /// # Errors
     ///

@@ -23,7 +23,8 @@ pub fn expect_end(cursor: &Cursor) -> Result<(), Malformed>
     }
 }
 
-/// Reads a byte that must equal `wanted`.
+/// Reads a byte that must equal `wanted`. On `Ok`, the result and the new place are those that the grammar
+/// gives. After an error, the cursor may have advanced.
 ///
 /// # Errors
 ///

@@ -164,7 +164,7 @@ impl<'a> Body<'a> {
         }
     }
 
-    /// Returns the operators in order, each with its place, without the last `end`.
+    /// Returns the operators in order, each with its place, without the last `end`. They are well nested.
     pub fn operators(&self) -> OperatorsReader<'a>
         ensures all { result ≡ self.now.value.operators }
         ensures nested { Nests Sequence (roles self.now.value.operators) }
@@ -225,7 +225,8 @@ fn read_bodies<'a>(alloc: Global, cursor: &mut Cursor<'a>) -> Result<Vec<Body<'a
     Ok(bodies)
 }
 
-/// Reads the content of a code section.
+/// Reads the content of a code section. On `Ok`, the result is the value that the grammar gives for all
+/// remaining bytes.
 ///
 /// # Errors
 ///

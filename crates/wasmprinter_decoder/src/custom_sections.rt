@@ -33,7 +33,8 @@ impl<'a> Model for Custom<'a> {
 }
 
 impl<'a> Custom<'a> {
-    /// Reads the content of a custom section.
+    /// Reads the content of a custom section. On `Ok`, the result is the value that the grammar gives for all
+    /// remaining bytes.
     ///
     /// # Errors
     ///

@@ -128,7 +128,8 @@ impl<'a> Data<'a> {
     }
 }
 
-/// Reads the content of a data section.
+/// Reads the content of a data section. On `Ok`, the result is the value that the grammar gives for all
+/// remaining bytes.
 ///
 /// # Errors
 ///
@@ -143,7 +144,8 @@ pub fn read_data<'a>(alloc: Global, cursor: &mut Cursor<'a>) -> Result<Vec<Data<
     Ok(segments)
 }
 
-/// Reads the content of a data count section.
+/// Reads the content of a data count section. On `Ok`, the result is the value that the grammar gives for all
+/// remaining bytes.
 ///
 /// # Errors
 ///

@@ -229,9 +229,13 @@ fn read_module<'a>(alloc: Global, wasm: &'a [u8]) -> Result<Module<'a>, Error>
     })
 }
 
-/// Decodes a module.
+/// Decodes a module. On `Ok`, the bytes encode the module. It is within the limits: at most 50,000 locals in a
+/// function, not counting parameters, at most 1,000,000 functions, and no table with an empty initialiser.
 ///
 /// # Errors
+///
+/// Each error has the cause that is listed here (`refused`); of `Memory`, the contract says only when an allocation is
+/// possible.
 ///
 /// - `Component` if the bytes are marked as a component. This error takes precedence over the others.
 /// - `Malformed` if the bytes do not encode a module.

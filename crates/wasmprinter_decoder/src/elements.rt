@@ -212,7 +212,8 @@ impl<'a> Element<'a> {
     }
 }
 
-/// Reads the content of an element section.
+/// Reads the content of an element section. On `Ok`, the result is the value that the grammar gives for all
+/// remaining bytes.
 ///
 /// # Errors
 ///

@@ -120,7 +120,8 @@ impl<'a> Export<'a> {
     }
 }
 
-/// Reads the content of an export section.
+/// Reads the content of an export section. On `Ok`, the result is the value that the grammar gives for all
+/// remaining bytes.
 ///
 /// # Errors
 ///

@@ -31,7 +31,8 @@ fn read_type_indices(alloc: Global, cursor: &mut Cursor) -> Result<Vec<u32>, Err
     Ok(kept)
 }
 
-/// Reads the content of a function section.
+/// Reads the content of a function section. On `Ok`, the result is the value that the grammar gives for all
+/// remaining bytes.
 ///
 /// # Errors
 ///

@@ -18,7 +18,8 @@ pub struct GlobalType {
 }
 
 impl GlobalType {
-    /// Reads the type of the value, and whether the global can be changed.
+    /// Reads the type of the value, and whether the global can be changed. On `Ok`, the result and the new
+    /// place are those that the grammar gives. After an error, the cursor may have advanced.
     ///
     /// # Errors
     ///

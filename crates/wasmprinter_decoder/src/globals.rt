@@ -71,7 +71,8 @@ impl<'a> Global<'a> {
     }
 }
 
-/// Reads the content of a global section.
+/// Reads the content of a global section. On `Ok`, the result is the value that the grammar gives for all
+/// remaining bytes.
 ///
 /// # Errors
 ///

@@ -141,7 +141,8 @@ impl<'a> Import<'a> {
     }
 }
 
-/// Reads the content of an import section.
+/// Reads the content of an import section. On `Ok`, the result is the value that the grammar gives for all
+/// remaining bytes.
 ///
 /// # Errors
 ///

@@ -123,7 +123,8 @@ impl Memory {
     }
 }
 
-/// Reads the content of a memory section.
+/// Reads the content of a memory section. On `Ok`, the result is the value that the grammar gives for all
+/// remaining bytes.
 ///
 /// # Errors
 ///

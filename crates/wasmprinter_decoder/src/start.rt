@@ -43,7 +43,8 @@ impl Start {
     }
 }
 
-/// Reads the content of a start section.
+/// Reads the content of a start section. On `Ok`, the result is the value that the grammar gives for all
+/// remaining bytes.
 ///
 /// # Errors
 ///

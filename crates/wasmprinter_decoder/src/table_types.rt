@@ -33,7 +33,8 @@ pub struct TableType {
 }
 
 impl TableType {
-    /// Reads the type of the elements, the flags, and the limits.
+    /// Reads the type of the elements, the flags, and the limits. On `Ok`, the result and the new place are
+    /// those that the grammar gives. After an error, the cursor may have advanced.
     ///
     /// # Errors
     ///

@@ -125,7 +125,8 @@ fn empty_table(tables: &[Table]) -> Option<u64>
     None
 }
 
-/// Reads the content of a table section.
+/// Reads the content of a table section. On `Ok`, the result is the value that the grammar gives for all
+/// remaining bytes.
 ///
 /// # Errors
 ///

@@ -58,7 +58,7 @@ impl Tag {
         self.place
     }
 
-    /// Returns the index of the type.
+    /// Returns the index of the tag's function type.
     pub fn type_index(&self) -> u32
         ensures { result ≡ self.now.value }
     {
@@ -66,7 +66,8 @@ impl Tag {
     }
 }
 
-/// Reads the content of a tag section.
+/// Reads the content of a tag section. On `Ok`, the result is the value that the grammar gives for all
+/// remaining bytes.
 ///
 /// # Errors
 ///

@@ -148,7 +148,8 @@ impl<'a> Types<'a> {
         }
     }
 
-    /// Reads the content of a type section.
+    /// Reads the content of a type section. On `Ok`, the result is the value that the grammar gives for all
+    /// remaining bytes.
     ///
     /// # Errors
     ///
@@ -173,7 +174,8 @@ impl<'a> Types<'a> {
         self.types = types;
     }
 
-    /// Returns the groups in order.
+    /// Returns the groups in order. All their types together are fewer than 2^64, since they were read from bytes in
+    /// memory (`few`).
     pub fn groups(&self) -> &[TypeGroup<'a>]
         ensures all { result.now ≡ self.now }
         ensures few { length (all_types (groups_of self.now)) < 2 ^ 64 }

@@ -95,7 +95,8 @@ fn unnamed_identifier<'n>(synthesizes: bool, depth: u64) -> Option<Identifier<'n
 }
 
 impl<'n, 'a> OpenLabels<'n, 'a> {
-    /// Creates the state at the start of an expression of function 0, with room for all labels that have names.
+    /// Creates the state at the start of an expression of function 0, with room for all labels that have names. No
+    /// block is open, and none was opened.
     ///
     /// # Errors
     ///
@@ -125,7 +126,8 @@ impl<'n, 'a> OpenLabels<'n, 'a> {
         self.identifiers
     }
 
-    /// Moves to the start of an expression of the function: no block is open, and none was opened.
+    /// Moves to the start of an expression of the function: no block is open, and none was opened. The identifiers
+    /// stay.
     pub fn begin(&mut self, function: u64)
         ensures { self.new ≡ at_start_again function self.old }
     {
@@ -181,7 +183,8 @@ impl<'n, 'a> OpenLabels<'n, 'a> {
         }
     }
 
-    /// Moves past an operator with the role.
+    /// Moves past an operator with the role. If it opens a block, that block is counted and becomes the innermost
+    /// one. If it ends a block, the innermost one is closed. The identifiers stay.
     #[inline]
     pub fn advance(&mut self, role: Role)
         requires { self.old.count + 1 < 2 ^ 64 }
@@ -215,8 +218,8 @@ impl<'n, 'a> OpenLabels<'n, 'a> {
         }
     }
 
-    /// Returns the meaning of a label index in an operator with the role. For `delegate` the innermost block is not
-    /// counted, but its label still shadows others.
+    /// Returns the meaning of a label index in an operator with the role: how it is printed, by the identifier of its
+    /// block or by its number. For `delegate` the innermost block is not counted, but its label still shadows others.
     pub fn find(&self, role: Role, label: u32) -> LabelRef<'n>
         ensures { found_view result ≡ found_at (role_view role) self.now label }
     {

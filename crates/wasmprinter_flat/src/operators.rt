@@ -79,7 +79,7 @@ pub fn start_operator<O: Output>(
 }
 
 /// Writes the word of an operator and its immediates, with a space before each immediate. `labels` are those that are
-/// open before it.
+/// open before it, and have the identifiers of the module.
 #[inline(never)]
 pub fn write_operator_word<O: Output, S: Signatures>(
     out: &mut O,
@@ -133,7 +133,8 @@ fn write_next_hint<O: Output, S: Signatures>(
 }
 
 /// Writes the operators of an expression, each after its hint if it has one. `labels` is first reset to the start of
-/// `setting.function`, so its earlier use does not matter. Its identifiers are those passed to `OpenLabels::new`.
+/// `setting.function`, so its earlier use does not matter. Its identifiers are those passed to `OpenLabels::new`, and
+/// they stay.
 // The arguments `true 0 []` say that no operator was written, no block was opened and no label is open.
 pub fn write_operators<O: Output, S: Signatures>(
     out: &mut O,

@@ -36,7 +36,7 @@ impl<'m, 'a> Model for Folder<'m, 'a> {
 
 impl<'m, 'a> Folder<'m, 'a> {
     /// Gathers the types of the items that the module's operators refer to. `color` says whether texts of folded
-    /// operators contain ANSI escape sequences.
+    /// operators contain ANSI escape sequences. Contracts see the result as this Boolean and the module.
     ///
     /// # Errors
     ///
@@ -61,7 +61,8 @@ impl<'m, 'a> Folder<'m, 'a> {
     /// The options of `out` must ask for folding.
     ///
     /// Writes nothing if the list has a legacy operator (`try`, `catch`, `catch_all` or `delegate`), which cannot be
-    /// folded. If an allocation fails, records in `out` that memory ran out.
+    /// folded. If an allocation fails, records in `out` that memory ran out. Afterwards `self` means the same, and
+    /// `labels` has the same identifiers.
     pub fn write<O: FoldingOutput, S: Signatures>(
         &mut self,
         out: &mut O,

@@ -58,15 +58,15 @@ fn check_printed_hints(options: &PrintOptions, module: &Module<'_>) -> Result<()
     check_hints(module)
 }
 
-/// Checks, before anything is printed, that everything that the options print of a module can be folded. Allocates
-/// no memory.
+/// Checks, before anything is printed, that everything that the options print of a module can be folded. On `Ok`, the
+/// printed lists of operators have none of the operators and hints below. Allocates no memory.
 ///
 /// # Errors
 ///
 /// - `FoldLegacy` with the place of the first `try`, `catch`, `catch_all` or `delegate` in the lists of operators that
 ///   are printed, in the order of the bytes.
-/// - `FoldHint`, if there is no such operator, with the place of the first branch hint on a `block`, `loop`, `try_table`,
-///   `else` or `end` of the bodies that are printed, in the order of the operators.
+/// - `FoldHint`, if there is no such operator, with the place of the first branch hint on a `block`, `loop`,
+///   `try_table`, `else` or `end` of the bodies that are printed, in the order of the operators.
 pub fn check_folding(options: &PrintOptions, module: &Module<'_>) -> Result<(), Error>
     ensures legacy { IfOk result (λ _. legacy_places options.now module.now ≡ []) }
     ensures hints { IfOk result (λ _. misplaced_hints options.now module.now ≡ []) }

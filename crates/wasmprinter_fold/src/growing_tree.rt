@@ -51,7 +51,8 @@ fn take_hint(hints: &mut FunctionHints<'_>, offset: u64) -> Option<bool>
 }
 
 impl GrowingTree {
-    /// Creates a tree without nodes. This allocates no memory.
+    /// Creates a tree without nodes. `color` says whether its texts have ANSI escape sequences. This allocates no
+    /// memory.
     pub fn new(alloc: Global, color: bool) -> GrowingTree
         ensures { result.texts.color ≡ color }
     {
@@ -215,7 +216,8 @@ impl GrowingTree {
 
     /// Folds the operators of an expression. `own` is the number of results of the enclosing function: 0 in a constant
     /// expression, `None` if the function's type is unknown. Returns whether the operators are folded: they are not if
-    /// one of them is `try`, `catch`, `catch_all` or `delegate`.
+    /// one of them is `try`, `catch`, `catch_all` or `delegate`. On `Ok(true)`, the tree has the nodes of the operators
+    /// and no others (`grown`). The color and the identifiers of `labels` stay, also after an error.
     ///
     /// # Errors
     ///

@@ -6,30 +6,33 @@ ghost use Rattle.wasmprinter_laws.specs.ColoredLaws.{ColoredGroupsAreNodes, Colo
 ghost use Rattle.wasmprinter_laws.specs.PlainLaws.{ColorsKeepText};
 ghost use Rattle.wasmprinter_laws.specs.AnyFolding.{FoldsByOwnArities, FoldedAnyhowReadsAsFlat};
 
-/// If the text of some calls is plain, it is what remains of their colored text after the sequences are deleted.
+/// Deleting the ANSI escape sequences from the colored text of any calls on a printer gives their text without
+/// colors, if that text contains only tabs, line feeds and the characters from the space to the tilde.
 pub fn colors_keep_text()
     ensures { ColorsKeepText }
 {}
 
-/// Colors in the text of folded operators are escape sequences only: what remains after the sequences are deleted
-/// is the text without colors.
+/// For each module that bytes encode: deleting the ANSI escape sequences from its text gives its text without colors.
+/// The text has colors only within folded operators.
 pub fn color_adds_sequences()
     ensures { ColorAddsSequences }
 {}
 
-/// Colors in the text of folded operators occur inside the texts of calls: each call, with the sequences deleted
-/// from its text, is the corresponding call of the layout without colors.
+/// For each module that bytes encode: deleting the ANSI escape sequences from the text of each call on the printer
+/// gives the calls of the layout without colors, one for one. So each sequence is within the text of one call.
 pub fn texts_contain_colors()
     ensures { TextsContainColors }
 {}
 
-/// The colors of all styles, as a color printer writes them, are escape sequences only: what remains after the
-/// sequences are deleted is the text without colors.
+/// For each module that bytes encode: deleting the ANSI escape sequences from the text that a color printer writes
+/// gives the text without colors. Such a printer writes the sequences of every style, not only those within folded
+/// operators.
 pub fn colored_text_keeps()
     ensures { ColoredTextKeeps }
 {}
 
-/// After the escape sequences are deleted, the groups of folded text with colors are the nodes of its tree.
+/// After the escape sequences are deleted, the groups of folded text are the nodes of its tree. The text has colors
+/// within folded operators or not, and the sequences of every style or not.
 /// [`folded_groups_are_nodes`](crate::folded_groups_are_nodes) says the same of the text without colors.
 pub fn colored_groups_are_nodes()
     ensures { ColoredGroupsAreNodes }
@@ -42,9 +45,9 @@ pub fn colored_modules_have_trees()
     ensures { ColoredModulesHaveTrees }
 {}
 
-/// If the options ask for folded operators, these are folded by the arities of the table of operators and by the
-/// items of the module that they name. This is one of the ways of folding that
-/// [`folded_text_reads_as_flat_by_any_arities`] covers.
+/// If the options ask for folded operators, the layout of any module is the one that folds them by the arities of the
+/// table of operators and by the types of the module's items that they name. An arity is a number of operands and
+/// results. This is one of the ways of folding that [`folded_text_reads_as_flat_by_any_arities`] covers.
 pub fn folded_text_is_by_own_arities()
     ensures { FoldsByOwnArities }
 {}

@@ -7,33 +7,37 @@ ghost use Rattle.wasmprinter_spec.specs.Folding.Unfolding.{UnfoldingRule};
 ghost use Rattle.wasmprinter_spec.specs.Layout.Folded.{FoldedRule, FoldingRule};
 ghost use Rattle.wasmprinter_spec.specs.Layout.Operators.{Setting};
 
-/// An operator that takes operands takes the shortest run of last nodes whose results are exactly as many as it
-/// needs. It takes none if the sum of results first passes that number or no run has it.
+/// An operator that needs `n` operands, with `n` above 0, takes the shortest run of last nodes before it whose
+/// results sum up to exactly `n`. It takes none if the first sum that reaches `n` is greater than `n`, or if all
+/// nodes together have fewer than `n` results. The sums saturate.
 pub fn operands_are_the_shortest_run()
     ensures { OperandRule }
 {}
 
-/// The tree of a list of operators represents that list, with each operator in the position that its role
-/// requires. No other tree does.
+/// If a list of operators has a tree, the operators of the tree, in their flat order, are that list, and each has the
+/// position that its role requires (`says`). Any tree with such positions is the one that the list of its operators
+/// has, so no other tree represents that list (`unique`). A role is, for example, to open or to end a block.
 pub fn trees_say_their_lists()
     ensures says { TreesRepresentLists }
     ensures unique { TreesAreUnique }
 {}
 
-/// Operators have a tree exactly if they are well nested and none is `try`, `catch`, `catch_all` or `delegate`.
+/// Operators have a tree if they are well nested and none is `try`, `catch`, `catch_all` or `delegate` (`nested`), and
+/// only then (`only`).
 pub fn nested_operators_have_trees()
     ensures nested { NestedOperatorsHaveTrees }
     ensures only { TreesAreNested }
 {}
 
-/// The nodes of operators unfold to these operators in order, for any operand counts. Of an `end`, the nodes
-/// record only that it is one.
+/// Unfolding the nodes of a tree gives all operators of the tree in their flat order, whatever numbers of operands
+/// they were folded by. Of an `end`, the nodes record only that it is one.
 pub fn folding_loses_nothing()
     ensures { UnfoldingRule }
 {}
 
-/// A list of operators has a folded layout exactly if it is well nested and no operator belongs to legacy
-/// exception handling.
+/// A list of operators has a folded layout if it is well nested and no operator belongs to legacy exception handling
+/// (`folded`), and only then (`only`). This holds for any options, names, hints, and types of the items that the
+/// operators name.
 pub fn nested_operators_are_folded()
     ensures folded { (s : Setting) (signatures : Signatures) → FoldedRule s signatures }
     ensures only { (s : Setting) (signatures : Signatures) → FoldingRule s signatures }

@@ -4,12 +4,15 @@ ghost use Rattle.wasmprinter_spec.specs.PlaceLaws.{AlikeHaveSameLines, LinesJoin
 ghost use Rattle.wasmprinter_spec.specs.PlaceLaws.{FindsPlace, FindsLine};
 ghost use Rattle.wasmprinter_laws.specs.Feeds.{LinesBeginAfterFeeds};
 
-/// Two lists of calls that differ only in how text is split into pieces have the same lines.
+/// Two lists of calls on a printer that differ only in how text is split into pieces have the same lines: the same
+/// places and the same bytes.
 pub fn alike_calls_have_the_same_lines()
     ensures { AlikeHaveSameLines }
 {}
 
-/// The lines of a module, joined, are its text.
+/// The lines of a module's layout, each with the line feed after it, joined in order, are the text of that layout.
+/// This holds for any options and module, for any answers of the printer to its claims, and also if the layout ends
+/// at a refused section.
 pub fn lines_join_to_the_text()
     ensures { LinesJoin }
 {}
@@ -20,26 +23,28 @@ pub fn lines_begin_after_feeds()
     ensures { LinesBeginAfterFeeds }
 {}
 
-/// If bytes encode a module, its bodies are in an interval that holds no other line's place, and the places in it
-/// increase.
+/// If bytes encode a module, the places of its bodies, of their locals, operators and last `end`s increase, and all
+/// are in one interval of byte offsets. No other item that begins a line has its place in that interval.
 pub fn bodies_lie_apart()
     ensures { BodiesLieApart }
 {}
 
-/// If bodies are printed flat and no `dylink.0` section is refused, the header of each function, its locals and
-/// each of its operators have a line of their own, in order.
+/// If bodies are printed flat and no `dylink.0` section is refused, the header of each function, its locals, if it has
+/// any, and each of its operators have one line each, in this order. No other line begins with the same place. Only
+/// lines of branch hints come between these lines.
 pub fn functions_have_lines()
     ensures { FunctionsHaveLines }
 {}
 
-/// The place that is found for an operator is the operator's place, and the line that is found begins with it.
-/// This holds for any lines.
+/// If a line is found for an operator, the operator exists, the returned place is the operator's place, and the line
+/// begins with it. This holds for any lines, also for lines that are not those of the module.
 pub fn finds_places()
     ensures { FindsPlace }
 {}
 
 /// If the bodies of a module are printed flat and no `dylink.0` section is refused, the line of each operator is
-/// found in the module's lines. It is the only line with the operator's place.
+/// found in the module's lines. It is the only line with the operator's place. For an operator that does not exist,
+/// no line is found.
 pub fn finds_lines()
     ensures { FindsLine }
 {}

@@ -10,12 +10,14 @@ ghost use Rattle.wasmprinter_laws.specs.NameLaws.{NamesAreOneList, EntriesAreGiv
 ghost use Rattle.wasmprinter_laws.specs.NameLaws.{IdentifiersAreApart, IdentifiersAreNamed, ModulesHaveIdentifiers, IdentifiersResolve};
 ghost use Rattle.wasmprinter_laws.specs.LabelLaws.{LabelsMeanTheirBlocks};
 
-/// Given bytes encode at most one module with its places (section 5.5 of the standard, "Modules").
+/// The same bytes do not encode two different modules (section 5.5 of the standard, "Modules"). The byte offsets of
+/// the module's parts are included: they are equal too.
 pub fn bytes_spell_at_most_one_module()
     ensures { SpellsAtMostOne }
 {}
 
-/// The reader's test of nesting accepts operators exactly if they are well nested.
+/// The test of nesting that the reader of text uses accepts operators exactly if they are well nested: each block ends
+/// with `end`, or a `try` with `delegate`; `else`, `catch` and `catch_all` occur only where their block allows them.
 pub fn reader_takes_nested_operators()
     ensures { TakesNested }
 {}
@@ -31,8 +33,9 @@ pub fn printed_text_reads_back()
     ensures { ReadsBack }
 {}
 
-/// Places at the start of lines, and an indent of spaces and tabs, change only white space and comments: the tokens
-/// of a text without colors stay the same, whether operators are folded or not.
+/// Two texts of one module have the same tokens if their options differ only in places at the start of lines and in
+/// the indent. So places and the indent change only white space and comments. Both texts have no colors, and both
+/// indents consist of spaces and tabs. Operators are folded in both texts or in none.
 pub fn places_and_indent_keep_tokens()
     ensures { TokensStay }
 {}
@@ -44,8 +47,8 @@ pub fn hints_stay()
     ensures { HintsStay }
 {}
 
-/// Printed text without colors, whose indent consists of spaces and tabs, contains only tabs, line feeds and the
-/// characters from the space to the tilde.
+/// The text of each module that bytes encode, without colors and with an indent of spaces and tabs, contains only
+/// tabs, line feeds and the characters from the space to the tilde.
 pub fn printed_text_is_plain()
     ensures { PrintsPlainText }
 {}
@@ -55,12 +58,14 @@ pub fn plain_text_is_utf8()
     ensures { PlainTextIsUtf8 }
 {}
 
-/// Deleting ANSI escape sequences leaves a text of only these characters as it is.
+/// Deleting ANSI escape sequences leaves a text unchanged that contains only tabs, line feeds and the characters from
+/// the space to the tilde.
 pub fn plain_text_has_no_color()
     ensures { PlainTextHasNoColor }
 {}
 
-/// Two texts of only these characters, joined, contain only these characters.
+/// If each of two texts contains only tabs, line feeds and the characters from the space to the tilde, so do the two
+/// texts joined.
 pub fn plain_texts_join()
     ensures { PlainTextsJoin }
 {}
@@ -73,7 +78,8 @@ pub fn printed_operators_read_back()
 {}
 
 /// The text that is laid out for nested operators reads as exactly these operators also if items and labels have the
-/// names that name sections give, and the others synthesized identifiers or none.
+/// names that name sections give, and the others synthesized identifiers or none. The other conditions are those of
+/// [`printed_operators_read_back`].
 pub fn named_operators_read_back()
     ensures { NamedOperatorsReadBack }
 {}
@@ -88,7 +94,8 @@ pub fn folded_operators_read_back()
 
 /// The groups of folded text are the nodes of its tree: one group for each node, in the same order and at the same
 /// depth. The items of a group before its inner nodes are those that the text of its operator reads as, or the word
-/// `then` or `else`. This holds for any numbers of operands and results by which operators are folded.
+/// `then` or `else`. This holds for any numbers of operands and results by which operators are folded. The text has no
+/// colors, and its indent consists of spaces and tabs.
 pub fn folded_groups_are_nodes()
     ensures { FoldedGroupsAreNodes }
 {}
@@ -107,12 +114,14 @@ pub fn folded_modules_have_trees()
     ensures { FoldedModulesHaveTrees }
 {}
 
-/// Each data of a name section gives exactly one list of entries (appendix "Name Section" of the standard).
+/// Any bytes, taken as the data of a name section, give exactly one list of entries (appendix "Name Section" of the
+/// standard). An entry gives a name to one item.
 pub fn name_sections_give_one_list()
     ensures { NamesAreOneList }
 {}
 
-/// The list of entries that name sections give is the one from which the items of a module have their names.
+/// The list of entries from which the items of a module have their names is the one that the grammar of name sections
+/// gives for the same data.
 pub fn entries_are_given()
     ensures { EntriesAreGiven }
 {}
@@ -123,19 +132,19 @@ pub fn name_maps_end_at_the_first_error()
     ensures { NameMapsEndAtFirstError }
 {}
 
-/// Each entry that bytes give has an index of 32 bits and a name in UTF-8.
+/// Each entry that the bytes of a name section give has an index of 32 bits and a name in UTF-8.
 pub fn name_sections_give_entries()
     ensures { BytesGiveEntries }
 {}
 
-/// If entries have indices of 32 bits and names in UTF-8, an identifier means one item of its space, whether
-/// identifiers are synthesized for items without names or not.
+/// If the entries of name sections have indices of 32 bits and names in UTF-8, no identifier means two items of one
+/// index space, whether identifiers are synthesized for items without names or not.
 pub fn identifiers_are_apart()
     ensures { IdentifiersAreApart }
 {}
 
-/// If entries have indices of 32 bits and names in UTF-8, each identifier is UTF-8 and not empty, and each name is
-/// UTF-8.
+/// If the entries of name sections have indices of 32 bits and names in UTF-8, each identifier that items get is UTF-8
+/// and not empty, and each name is UTF-8.
 pub fn identifiers_are_named()
     ensures { IdentifiersAreNamed }
 {}
@@ -146,14 +155,15 @@ pub fn modules_have_identifiers()
     ensures { ModulesHaveIdentifiers }
 {}
 
-/// If no two items of a space have the same identifier, the identifiers are distinct as declarations, and each is
-/// resolved to its item.
+/// If no two items of an index space have the same identifier, the reader accepts the declarations of the identifiers
+/// as distinct and resolves each identifier to the index of its item. The space has at most 2^64 items.
 pub fn identifiers_resolve()
     ensures { IdentifiersResolve }
 {}
 
-/// A label that is printed by its identifier means the intended block. If an inner block has its name, the label is
-/// printed by its number.
+/// A label whose block has an identifier is printed by that identifier, and the reader resolves it to that block. If a
+/// block further in was given the same name, the label is printed by its number instead. The condition: if two blocks
+/// have the same identifier, and one may be within the other, both were given the same name.
 pub fn labels_mean_their_blocks()
     ensures { LabelsMeanTheirBlocks }
 {}

@@ -71,7 +71,8 @@ fn write_nested<O: FoldingOutput>(
     );
 }
 
-/// Writes an expression in a field.
+/// Writes a constant expression in a field, at nesting depth 2: folded if the options ask for it, otherwise flat.
+/// `scope` is working memory and means the same afterwards.
 pub fn write_constant<O: FoldingOutput>(
     out: &mut O,
     scope: &mut Scope<'_, '_>,
@@ -136,7 +137,9 @@ fn write_group_parts<O: FoldingOutput>(
     write_grouped_expr(out, scope, expression);
 }
 
-/// Writes an expression as a group. If a line begins in it, the group closes on a line of its own.
+/// Writes a constant expression as a group, at nesting depth 2. The group begins with the keyword unless the expression
+/// is a single operator. If a line begins in it, the group closes on a line of its own. `scope` is working memory and
+/// means the same afterwards.
 #[tactic(auto, unfolding(wasmprinter_spec::specs::Layout::Expressions::constant_group))]
 pub fn write_constant_group<O: FoldingOutput>(
     out: &mut O,

@@ -59,7 +59,8 @@ pub(crate) fn write_field<O: FoldingOutput, F: Field>(
     close_group(out, FIELD_NESTING, outer_begun);
 }
 
-/// Writes the fields of one kind in order. The first of them has the index `first`.
+/// Writes the fields of one kind in order, each as a group on a line of its own. The first of them has the index
+/// `first`. `scope` is working memory and means the same afterwards.
 pub fn write_each<O: FoldingOutput, F: Field>(
     out: &mut O,
     scope: &mut Scope<'_, '_>,

@@ -9,7 +9,8 @@ use crate::module_scope::{Scope, write_declaration_in, write_type_use_in};
 use wasmprinter_custom::Space;
 use wasmprinter_print::Output;
 
-/// Writes the header of a function, whose parameters have identifiers.
+/// Writes the header of a function: its declaration, a space and its type. The parameters have the identifiers of the
+/// function with the index `number`.
 #[tactic(auto, unfolding(wasmprinter_spec::specs::Layout::Functions::header_pieces))]
 pub fn write_function_header<O: Output>(
     out: &mut O,
@@ -24,7 +25,7 @@ pub fn write_function_header<O: Output>(
     write_type_use_in(out, scope, Some(number), type_index);
 }
 
-/// Writes the header of a tag.
+/// Writes the header of a tag: its declaration, a space and its type. The parameters have no identifiers.
 #[tactic(auto, unfolding(wasmprinter_spec::specs::Layout::Functions::header_pieces))]
 pub fn write_tag_header<O: Output>(out: &mut O, scope: &Scope<'_, '_>, number: u64, type_index: u32)
     ensures { O.wrote out.old out.new

@@ -100,7 +100,7 @@ fn write_definition<O: FoldingOutput>(
 }
 
 /// Writes the function with the index `number` as a group on a line of its own, its operators with these hints. A
-/// skeleton leaves out the body.
+/// skeleton leaves out the body. `scope` is working memory and means the same afterwards.
 #[tactic(auto, unfolding(wasmprinter_spec::specs::Layout::Functions::function_pieces, wasmprinter_spec::specs::Layout::Functions::function_group, wasmprinter_spec::specs::Layout::Groups::group_space_at))]
 pub fn write_function<O: FoldingOutput>(
     out: &mut O,

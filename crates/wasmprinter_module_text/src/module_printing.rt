@@ -54,6 +54,9 @@ fn print_by<'s, 'a, P: Print, K: LayoutOptions>(
 /// Prints a module. `labels` also holds the identifiers of the module. If operators are folded, a list with a legacy
 /// operator is left out, and so is a hint that can't be folded; `check_folding` refuses both.
 ///
+/// On `Ok`, the calls of the module's layout were made. `answers` in the contract are the printer's answers whether it
+/// claims each custom section. After an error, the calls that were made are a prefix of the layout, as follows.
+///
 /// # Errors
 ///
 /// - `DylinkSubsection`: a custom section `dylink.0` that the printer does not claim has an unknown subsection.

@@ -59,7 +59,8 @@ pub struct Scope<'s, 'a> {
 }
 
 impl<'s, 'a> Scope<'s, 'a> {
-    /// Returns the identifiers of the module.
+    /// Returns the identifiers of the module: those of this scope for all items (`all`), and so for each single item of
+    /// the module (`items`).
     pub fn identifiers(&self) -> Identifiers<'s, 'a>
         ensures all { names_of_identifiers result ≡ names_of self.now.labels }
         ensures items { (space : Space) (n : ℕ) → item_of result space 0 n ≡ item_in self.now.labels space n }
@@ -68,7 +69,8 @@ impl<'s, 'a> Scope<'s, 'a> {
     }
 }
 
-/// Writes the declaration of an item of the module.
+/// Writes the declaration of an item of the module: its identifier and name, if it has them, and a comment with its
+/// index.
 pub fn write_declaration_in<O: Output>(
     out: &mut O,
     scope: &Scope<'_, '_>,
@@ -81,7 +83,7 @@ pub fn write_declaration_in<O: Output>(
     write_declaration_of(out, &scope.identifiers(), space, 0, number);
 }
 
-/// Writes an index of an item of the module.
+/// Writes an index of an item of the module: the item's identifier or, if it has none, the number.
 pub fn write_index_in<O: Output>(out: &mut O, scope: &Scope<'_, '_>, space: Space, index: u32)
     ensures { O.wrote out.old out.new
         (index_pieces (item_in scope.now.labels space index) index) }
@@ -117,7 +119,7 @@ pub(crate) fn write_type_use_in<O: Output>(
     type_use::write_type_use(out, &scope.identifiers(), owner, &scope.types, index);
 }
 
-/// Writes a reference type.
+/// Writes a reference type. A type index in it is written by the identifier of the type, if it has one.
 pub fn write_ref_type_in<O: Output>(out: &mut O, scope: &Scope<'_, '_>, ref_type: RefType)
     ensures { O.wrote out.old out.new
         (ref_pieces (names_of scope.now.labels) (ref_view ref_type)) }
@@ -125,7 +127,7 @@ pub fn write_ref_type_in<O: Output>(out: &mut O, scope: &Scope<'_, '_>, ref_type
     types::write_ref_type(out, &scope.identifiers(), ref_type);
 }
 
-/// Writes a value type.
+/// Writes a value type. A type index in it is written by the identifier of the type, if it has one.
 pub fn write_val_type_in<O: Output>(out: &mut O, scope: &Scope<'_, '_>, value_type: ValType)
     ensures { O.wrote out.old out.new
         (val_pieces (names_of scope.now.labels) (val_type_view value_type)) }

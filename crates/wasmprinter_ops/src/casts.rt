@@ -15,7 +15,7 @@ const SOURCE_NULL: u8 = 1;
 /// The flag of a cast whose second reference type may be null.
 const TARGET_NULL: u8 = 2;
 
-/// Returns the first reference type of a cast with the flags.
+/// Returns the first reference type of a cast with the flags: to `heap`, and nullable if bit 0 of the flags is set.
 pub fn cast_source(flags: u8, heap: HeapType) -> RefType
     ensures { ref_view result ≡ source_type flags heap }
 {
@@ -25,7 +25,7 @@ pub fn cast_source(flags: u8, heap: HeapType) -> RefType
     }
 }
 
-/// Returns the second reference type of a cast with the flags.
+/// Returns the second reference type of a cast with the flags: to `heap`, and nullable if bit 1 of the flags is set.
 pub fn cast_target(flags: u8, heap: HeapType) -> RefType
     ensures { ref_view result ≡ target_type flags heap }
 {

@@ -126,7 +126,8 @@ impl StorageType {
     }
 }
 
-/// Reads whether a field or a global can be changed.
+/// Reads whether a field or a global can be changed. On `Ok`, the result and the new place are those that the
+/// grammar gives. After an error, the cursor may have advanced.
 ///
 /// # Errors
 ///
@@ -333,7 +334,8 @@ impl<'a> SubTypes<'a> {
         })
     }
 
-    /// Reads a subtype that is not in a group, as a list of one type.
+    /// Reads a subtype that is not in a group, as a list of one type. On `Ok`, the result and the new place are
+    /// those that the grammar gives. After an error, the cursor may have advanced.
     ///
     /// # Errors
     ///
@@ -345,7 +347,8 @@ impl<'a> SubTypes<'a> {
         SubTypes::read_times(cursor, 1)
     }
 
-    /// Reads a count and that many subtypes.
+    /// Reads a count and that many subtypes. On `Ok`, the result and the new place are those that the grammar
+    /// gives. After an error, the cursor may have advanced.
     ///
     /// # Errors
     ///

@@ -95,7 +95,8 @@ fn skip_operators(alloc: Global, cursor: &mut Cursor) -> Result<u64, Error>
 }
 
 impl<'a> Expression<'a> {
-    /// Reads operators and the `end` that closes them.
+    /// Reads operators and the `end` that closes them. On `Ok`, the result and the new place are those that the
+    /// grammar gives. After an error, the cursor may have advanced.
     ///
     /// # Errors
     ///
@@ -122,7 +123,8 @@ impl<'a> Expression<'a> {
         }
     }
 
-    /// Returns the operators in order, without the last `end`.
+    /// Returns the operators in order, without the last `end`. They are well nested (`nested`), and fewer than 2^64,
+    /// since each takes at least one byte in memory (`few`).
     pub fn operators(&self) -> OperatorsReader<'a>
         ensures all { result ≡ self.now.items }
         ensures nested { Nests Sequence (roles self.now.items) }

@@ -329,7 +329,8 @@ impl<'a> Operator<'a> {
     }
 }
 
-/// Reads an opcode that the table lists, and its immediates.
+/// Reads an opcode that the table lists, and its immediates. On `Ok`, the result and the new place are those
+/// that the grammar gives. After an error, the cursor may have advanced.
 ///
 /// # Errors
 ///
@@ -348,7 +349,8 @@ pub fn read_operator<'a>(cursor: &mut Cursor<'a>) -> Result<Operator<'a>, Malfor
     }
 }
 
-/// Reads an operator, and returns its place with it.
+/// Reads an operator, and returns its place with it. On `Ok`, the result and the new place are those that the
+/// grammar gives. After an error, the cursor may have advanced.
 ///
 /// # Errors
 ///

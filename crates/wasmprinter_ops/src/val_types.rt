@@ -140,7 +140,8 @@ impl HeapType {
     }
 }
 
-/// Reads a type index: a signed 33-bit number that is not negative.
+/// Reads a type index: a signed 33-bit number that is not negative. On `Ok`, the result and the new place are
+/// those that the grammar gives. After an error, the cursor may have advanced.
 ///
 /// # Errors
 ///
@@ -156,7 +157,8 @@ pub fn read_type_index(cursor: &mut Cursor) -> Result<u32, Malformed>
     }
 }
 
-/// Reads the byte of an abstract heap type, or a type index.
+/// Reads the byte of an abstract heap type, or a type index. On `Ok`, the result and the new place are those
+/// that the grammar gives. After an error, the cursor may have advanced.
 ///
 /// # Errors
 ///
@@ -197,7 +199,8 @@ impl RefType {
     }
 }
 
-/// Reads a reference type.
+/// Reads a reference type. On `Ok`, the result and the new place are those that the grammar gives. After an
+/// error, the cursor may have advanced.
 ///
 /// # Errors
 ///
@@ -247,7 +250,8 @@ pub fn begins_type(byte: u8) -> bool
         || HeapType::of_byte(byte).is_some()
 }
 
-/// Reads a value type.
+/// Reads a value type. On `Ok`, the result and the new place are those that the grammar gives. After an error,
+/// the cursor may have advanced.
 ///
 /// # Errors
 ///
@@ -268,7 +272,8 @@ impl Decode for ValType {
     }
 }
 
-/// Reads a count and that many value types.
+/// Reads a count and that many value types. On `Ok`, the result and the new place are those that the grammar
+/// gives. After an error, the cursor may have advanced.
 ///
 /// # Errors
 ///

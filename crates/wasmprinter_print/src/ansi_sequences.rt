@@ -5,7 +5,7 @@ ghost use Rattle.wasmprinter_spec.specs.Call.{Start, Literal as LiteralStyle, Na
 ghost use Rattle.wasmprinter_spec.specs.Call.{TypeName as TypeStyle, Comment as CommentStyle, Reset as NoStyle};
 ghost use Rattle.wasmprinter_spec.specs.Colored.{colored_bytes};
 
-/// Returns the sequences of literals, that is, numbers and strings: red.
+/// Returns the ANSI escape sequences that start the style of literals, that is, numbers and strings: red.
 #[tactic(auto, using(wasmprinter_spec::proofs::Sequences::literal))]
 #[inline(always)]
 pub fn literal_sequences() -> &'static str
@@ -14,7 +14,7 @@ pub fn literal_sequences() -> &'static str
     "\x1b[0m\x1b[31m"
 }
 
-/// Returns the sequences of names and of the numbers of items: magenta.
+/// Returns the ANSI escape sequences that start the style of names and of the numbers of items: magenta.
 #[tactic(auto, using(wasmprinter_spec::proofs::Sequences::name))]
 #[inline(always)]
 pub fn name_sequences() -> &'static str
@@ -23,7 +23,7 @@ pub fn name_sequences() -> &'static str
     "\x1b[0m\x1b[35m"
 }
 
-/// Returns the sequences of keywords: bold and intense yellow.
+/// Returns the ANSI escape sequences that start the style of keywords: bold and intense yellow.
 #[tactic(auto, using(wasmprinter_spec::proofs::Sequences::keyword))]
 #[inline(always)]
 pub fn keyword_sequences() -> &'static str
@@ -32,7 +32,7 @@ pub fn keyword_sequences() -> &'static str
     "\x1b[0m\x1b[1m\x1b[38;5;11m"
 }
 
-/// Returns the sequences of the words of types: bold and intense green.
+/// Returns the ANSI escape sequences that start the style of the words of types: bold and intense green.
 #[tactic(auto, using(wasmprinter_spec::proofs::Sequences::type_name))]
 #[inline(always)]
 pub fn type_sequences() -> &'static str
@@ -41,7 +41,7 @@ pub fn type_sequences() -> &'static str
     "\x1b[0m\x1b[1m\x1b[38;5;10m"
 }
 
-/// Returns the sequences of comments: cyan.
+/// Returns the ANSI escape sequences that start the style of comments: cyan.
 #[tactic(auto, using(wasmprinter_spec::proofs::Sequences::comment))]
 #[inline(always)]
 pub fn comment_sequences() -> &'static str
@@ -50,7 +50,7 @@ pub fn comment_sequences() -> &'static str
     "\x1b[0m\x1b[36m"
 }
 
-/// Returns the sequence of text without a style: the default color, not bold.
+/// Returns the ANSI escape sequence after which text has no style: the default color, not bold.
 #[tactic(auto, using(wasmprinter_spec::proofs::Sequences::reset))]
 #[inline(always)]
 pub fn reset_sequences() -> &'static str

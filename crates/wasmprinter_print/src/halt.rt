@@ -17,7 +17,8 @@ pub enum Halt {
 }
 
 impl Halt {
-    /// Returns the error that reports this.
+    /// Returns the library's error for this: `Printer` with the error of the call, `Memory`, or `DylinkSubsection`
+    /// with the id.
     pub fn into_error(self) -> Error
         ensures { result ≡ error_of self }
     {

@@ -66,7 +66,7 @@ impl PrintOptions {
         }
     }
 
-    /// Sets the text of one level of indentation. Allocates no memory.
+    /// Sets the text of one level of indentation. The other options stay as they are. Allocates no memory.
     pub fn set_indent(&mut self, text: String)
         ensures { self.new ≡ record self.old { indent = string_bytes text } }
     {

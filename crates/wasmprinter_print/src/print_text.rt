@@ -105,8 +105,8 @@ impl<T: PrintText> Print for T {
     }
 }
 
-/// A law: if each successful write appends its bytes to a view of the printer, then calls that all succeed append
-/// their text to it.
+/// A law for any function `view` from the printer to bytes: if each successful write appends its bytes to the view,
+/// then calls that all succeed append their text to it.
 pub fn text_is_gained<T: PrintText>()
     ensures { (view : T → List ℕ) → Grows view T.writes → TextIsGained view T.writes }
 {}

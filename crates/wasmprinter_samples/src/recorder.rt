@@ -50,6 +50,8 @@ impl Model for Recorder {
 }
 
 impl Recorder {
+    /// Returns a recorder that fails no call and claims no custom section. Contracts see a recorder as the number of
+    /// calls that have failed, which is 0.
     pub fn new(alloc: Global) -> Recorder
         ensures { result ≡ 0 }
     {
@@ -64,6 +66,7 @@ impl Recorder {
     }
 
     /// Returns a recorder that fails the call with this number. Only calls that can fail are counted, from 1.
+    /// Contracts see a recorder as the number of calls that have failed, which is 0.
     pub fn with_refusal(alloc: Global, call: u32, kind: ErrorKind) -> Recorder
         ensures { result ≡ 0 }
     {
@@ -72,7 +75,8 @@ impl Recorder {
         recorder
     }
 
-    /// Returns a recorder that claims the custom sections with this name.
+    /// Returns a recorder that claims the custom sections with this name; an empty name claims none. Contracts see a
+    /// recorder as the number of calls that have failed, which is 0.
     pub fn with_section_taken(alloc: Global, name: &'static str) -> Recorder
         ensures { result ≡ 0 }
     {

@@ -134,8 +134,8 @@ pub fn write_index<O: Output>(out: &mut O, identifier: Option<Identifier<'_>>, n
     }
 }
 
-/// Writes the declaration of an item of an index space. `outer` is the function of a local or the type of a field;
-/// it is ignored for items of other spaces.
+/// Writes the declaration of an item of an index space: its identifier and name, if it has them, and a comment with
+/// its index. `outer` is the function of a local or the type of a field; it is ignored for items of other spaces.
 pub fn write_declaration_of<O: Output>(
     out: &mut O,
     identifiers: &Identifiers<'_, '_>,
@@ -149,8 +149,8 @@ pub fn write_declaration_of<O: Output>(
     write_declaration(out, identifiers.item(space, outer, number), number);
 }
 
-/// Writes an index into an index space. `outer` is the function of a local or the type of a field; it is ignored
-/// for other spaces.
+/// Writes an index into an index space: the identifier of the item or, if it has none, the number. `outer` is the
+/// function of a local or the type of a field; it is ignored for other spaces.
 pub fn write_index_of<O: Output>(
     out: &mut O,
     identifiers: &Identifiers<'_, '_>,
@@ -164,7 +164,8 @@ pub fn write_index_of<O: Output>(
     write_index(out, identifiers.item(space, outer, number), number);
 }
 
-/// Writes a group of a keyword and an index into an index space of the module.
+/// Writes a group of a keyword and an index into an index space of the module. The index is written as
+/// [`write_index_of`] does.
 #[tactic(auto, unfolding(wasmprinter_spec::specs::Layout::Groups::line_group_space))]
 pub fn write_index_group<O: Output>(
     out: &mut O,

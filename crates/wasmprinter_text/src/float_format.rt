@@ -16,7 +16,7 @@ pub enum Format {
 }
 
 impl Format {
-    /// Returns the number of bits of the fraction.
+    /// Returns the number of bits of the fraction, which is at most that of a 64-bit float (`few`).
     pub fn fraction_bits(self) -> u32
         ensures is { result ≡ (width_of self).fraction }
         ensures few { result ≤ double.fraction }
@@ -27,7 +27,7 @@ impl Format {
         }
     }
 
-    /// Returns the number of hexadecimal digits that hold a fraction.
+    /// Returns the number of hexadecimal digits that hold a fraction, which is at most that of a 64-bit float (`few`).
     pub fn digit_count(self) -> u32
         ensures is { result ≡ digit_count (width_of self) }
         ensures few { result ≤ digit_count double }
@@ -38,7 +38,8 @@ impl Format {
         }
     }
 
-    /// Returns the bias: the number that is subtracted from the bits of the exponent.
+    /// Returns the bias: the number that is subtracted from the bits of the exponent. It is at most that of a 64-bit
+    /// float (`small`).
     pub fn bias(self) -> u64
         ensures is { result ≡ bias (width_of self) }
         ensures small { result ≤ bias double }
@@ -79,7 +80,8 @@ impl Format {
         }
     }
 
-    /// Returns the fraction, padded with zero bits at its end to whole hexadecimal digits.
+    /// Returns the fraction, padded with zero bits at its end to whole hexadecimal digits. It fits in
+    /// [`digit_count`](Self::digit_count) digits (`below`).
     pub fn filled_fraction(self, fraction: u64) -> u64
         requires { fraction < 2 ^ (width_of self).fraction }
         ensures is { result ≡ filled_fraction (width_of self) fraction }
@@ -88,7 +90,8 @@ impl Format {
         fraction * power(4 * self.digit_count() - self.fraction_bits())
     }
 
-    /// Returns the number of bits by which a subnormal fraction is shifted to a leading 1.
+    /// Returns the number of bits by which a subnormal fraction is shifted to a leading 1. It is at most the number of
+    /// fraction bits of a 64-bit float (`few`).
     pub fn shift(self, fraction: u64) -> u32
         requires some { 0 < fraction }
         requires below { fraction < 2 ^ (width_of self).fraction }
@@ -98,7 +101,8 @@ impl Format {
         self.fraction_bits() - fraction.ilog2()
     }
 
-    /// Returns the fraction after the leading 1 of a shifted subnormal number.
+    /// Returns the fraction after the leading 1 of a shifted subnormal number. It fits in the bits of the fraction
+    /// (`below`).
     pub fn shifted_fraction(self, fraction: u64) -> u64
         requires some { 0 < fraction }
         requires below { fraction < 2 ^ (width_of self).fraction }

@@ -13,7 +13,8 @@ const TAKEN_NOTE: &str = "(@metadata.code.branch_hint \"\\01\")";
 /// The annotation of an operator that is unlikely to branch.
 const NOT_TAKEN_NOTE: &str = "(@metadata.code.branch_hint \"\\00\")";
 
-/// Returns the annotation that says whether an operator is likely to branch.
+/// Returns the annotation that says whether an operator is likely to branch (`note`). It is the text of the part of the
+/// layout that [`write_hint_annotation`] writes (`shown`).
 #[tactic(auto, unfolding(wasmprinter_spec::specs::Quoted::quoted_bytes, wasmprinter_spec::specs::Quoted::byte_text))]
 pub fn hint_text(taken: bool) -> &'static str
     ensures note { result.now ≡ codes "(@metadata.code.branch_hint " ++ (quoted_bytes (flag_byte taken ∷ []) ++ codes ")") }

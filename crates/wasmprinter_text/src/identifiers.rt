@@ -45,7 +45,8 @@ fn write_numbered<O: Output>(out: &mut O, before: &str, word: &str, number: u64)
 }
 
 /// Writes the synthesized identifier of an item: the sign `#`, the word of its kind, and its number. It is written
-/// without quotes, so the word must consist of identifier characters.
+/// without quotes (`calls`). So it is an identifier of the layout only if the word consists of identifier characters
+/// (`pieces`).
 pub fn write_synthesized_identifier<O: Output>(out: &mut O, group: &str, number: u64)
     ensures calls { O.called out.old out.new (Text (dollar ∷ index_content group.now number) ∷ []) }
     ensures pieces { all_id_chars group.now ≡ true

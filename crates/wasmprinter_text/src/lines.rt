@@ -156,7 +156,8 @@ fn write_close<O: Output>(out: &mut O, place: Option<u64>, nesting: u64, on_new_
     out.write_str(")");
 }
 
-/// Closes a group. If the group contains a line break, it closes on a line of its own, which has no place.
+/// Closes a group and leaves it. If the group contains a line break, it closes on a line of its own, which has no
+/// place. `outer_begun` says whether a line had begun in the group around it, as `enter_group` returned.
 pub fn close_group<O: Output>(out: &mut O, nesting: u64, outer_begun: bool)
     ensures { Closed (groups O.wrote O.begun O.left_group) out.old out.new (close None nesting) outer_begun }
 {
@@ -166,7 +167,8 @@ pub fn close_group<O: Output>(out: &mut O, nesting: u64, outer_begun: bool)
 }
 
 /// Closes a group that ends at a place. If the group contains a line break, or lines begin with their places, it
-/// closes on a line of its own.
+/// closes on a line of its own. `outer_begun` says whether a line had begun in the group around it, as `enter_group`
+/// returned.
 pub fn close_group_at<O: Output>(out: &mut O, place: u64, nesting: u64, outer_begun: bool)
     ensures { Closed (groups O.wrote O.begun O.left_group) out.old out.new (close_at O.chosen place nesting) outer_begun }
 {

@@ -41,7 +41,7 @@ pub fn open_group_space<O: Output>(out: &mut O, keyword: &str)
     write_two_in_style(out, Style::Keyword, keyword, " ");
 }
 
-/// Opens a group whose keyword has no style.
+/// Opens a group whose keyword has no style: writes a parenthesis and the text `unstyled`.
 pub fn open_plain<O: Output>(out: &mut O, unstyled: &str)
     ensures { O.wrote out.old out.new (OpenPlain unstyled.now ∷ []) }
 {

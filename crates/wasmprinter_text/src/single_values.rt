@@ -97,7 +97,8 @@ fn write_to_printer<P: Print, V: Value>(out: &mut Printer<'_, '_, P, Brand>, val
 ///
 /// # Errors
 ///
-/// - `Printer` with the error of the call on the printer that failed.
+/// - `Printer` with the error of the call on the printer that failed. The calls before it succeeded, and with it they
+///   are a prefix of the calls for the text.
 pub fn write_value<P: Print, V: Value>(p: &mut P, value: &V) -> Result<(), Error>
     ensures { MadeCalls P.meaning p.old p.new (outcome result) (V.calls value.now) }
 {
@@ -112,7 +113,8 @@ pub fn write_value<P: Print, V: Value>(p: &mut P, value: &V) -> Result<(), Error
 ///
 /// # Errors
 ///
-/// - `Printer` with the error of the call on the printer that failed.
+/// - `Printer` with the error of the call on the printer that failed. The calls before it succeeded, and with it they
+///   are a prefix of the calls for the text.
 pub fn write_quoted<P: Print>(p: &mut P, s: &str) -> Result<(), Error>
     ensures { MadeCalls P.meaning p.old p.new (outcome result) (calls_in_style Literal (quoted_text (chars s.now))) }
 {
@@ -124,7 +126,8 @@ pub fn write_quoted<P: Print>(p: &mut P, s: &str) -> Result<(), Error>
 ///
 /// # Errors
 ///
-/// - `Printer` with the error of the call on the printer that failed.
+/// - `Printer` with the error of the call on the printer that failed. The calls before it succeeded, and with it they
+///   are a prefix of the calls for the text.
 pub fn write_bytes<P: Print>(p: &mut P, bytes: &[u8]) -> Result<(), Error>
     ensures { MadeCalls P.meaning p.old p.new (outcome result) (calls_in_style Literal (quoted_bytes bytes.now)) }
 {
@@ -137,7 +140,8 @@ pub fn write_bytes<P: Print>(p: &mut P, bytes: &[u8]) -> Result<(), Error>
 ///
 /// # Errors
 ///
-/// - `Printer` with the error of the call on the printer that failed.
+/// - `Printer` with the error of the call on the printer that failed. The calls before it succeeded, and with it they
+///   are a prefix of the calls for the text.
 pub fn write_f32<P: Print>(p: &mut P, bits: u32) -> Result<(), Error>
     ensures { MadeCalls P.meaning p.old p.new (outcome result) (float_calls single bits) }
 {
@@ -148,7 +152,8 @@ pub fn write_f32<P: Print>(p: &mut P, bits: u32) -> Result<(), Error>
 ///
 /// # Errors
 ///
-/// - `Printer` with the error of the call on the printer that failed.
+/// - `Printer` with the error of the call on the printer that failed. The calls before it succeeded, and with it they
+///   are a prefix of the calls for the text.
 pub fn write_f64<P: Print>(p: &mut P, bits: u64) -> Result<(), Error>
     ensures { MadeCalls P.meaning p.old p.new (outcome result) (float_calls double bits) }
 {

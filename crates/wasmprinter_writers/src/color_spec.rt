@@ -41,7 +41,7 @@ impl ColorSpec {
         }
     }
 
-    /// Sets the color, or removes it.
+    /// Sets the color, or removes it. Returns `self`; the rest of the look stays.
     pub fn set_fg(&mut self, fg: Option<Color>) -> &mut ColorSpec
         ensures same_reference { result.ghost_name ≡ self.entry.ghost_name }
         ensures set { result.now ≡ record self.old { color = color_of fg } }
@@ -50,7 +50,7 @@ impl ColorSpec {
         self
     }
 
-    /// Sets whether text is bold.
+    /// Sets whether text is bold. Returns `self`; the rest of the look stays.
     pub fn set_bold(&mut self, bold: bool) -> &mut ColorSpec
         ensures same_reference { result.ghost_name ≡ self.entry.ghost_name }
         ensures set { result.now ≡ record self.old { bold = bold } }
@@ -59,7 +59,7 @@ impl ColorSpec {
         self
     }
 
-    /// Sets whether the color is the intense one.
+    /// Sets whether the color is the intense one. Returns `self`; the rest of the look stays.
     pub fn set_intense(&mut self, intense: bool) -> &mut ColorSpec
         ensures same_reference { result.ghost_name ≡ self.entry.ghost_name }
         ensures set { result.now ≡ record self.old { intense = intense } }

@@ -41,7 +41,8 @@ impl<'a> OffsetsAndLines<'a> {
     ghost use Rattle.std.specs.Prelude.{◌≡◌};
     ghost use Rattle.wasmprinter_writers.specs.Cuts.{lines_at_starts, AreLineStarts};
 
-    /// Returns an iterator over the lines of `text` that start at `starts`. Allocates no memory.
+    /// Returns an iterator over the lines of `text` that start at `starts`. Allocates no memory. The starts must not
+    /// decrease, and each must be at a character boundary of `text`. A line ends where the next one starts.
     pub fn new(text: &'a str, starts: Vec<LineStart>) -> OffsetsAndLines<'a>
         requires { AreLineStarts starts.items text.now }
         ensures { result ≡ record { storage = text.now; lines = lines_at_starts starts.items text.now } }

@@ -111,8 +111,9 @@ impl LineTracker {
         Ok(())
     }
 
-    /// Returns the text and the starts of its lines. The text is returned even if the line starts are not. The starts do
-    /// not decrease, and each is at a character boundary of the text, so the text can be cut at them.
+    /// Returns the text and the starts of its lines. The text is returned even if the line starts are not. The starts
+    /// do not decrease, and each is at a character boundary of the text, so the text can be cut at them
+    /// (`boundaries`). This gives the lines of the tracker (`lines`).
     ///
     /// # Errors
     ///

@@ -35,8 +35,8 @@ impl<'m, 'a> Model for CalleeTypes<'m, 'a> {
 }
 
 impl<'m, 'a> CalleeTypes<'m, 'a> {
-    /// Gathers the type indices of imported functions and tags, in time proportional to the number of imports. Each look-up then takes constant
-    /// time.
+    /// Gathers the type indices of imported functions and tags, in time proportional to the number of imports. Each
+    /// look-up then takes constant time. Contracts see the result as the module.
     ///
     /// # Errors
     ///

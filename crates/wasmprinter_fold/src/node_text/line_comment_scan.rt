@@ -18,7 +18,8 @@ pub const UNSEEN: Semicolons = Semicolons {
     double: false,
 };
 
-/// Returns the state after one more piece of text.
+/// Returns the state after one more piece of text: whether all text so far ends with a semicolon, and whether it
+/// contains two consecutive semicolons.
 pub fn see_text(seen: Semicolons, text: &str) -> Semicolons
     ensures { result ≡ see_all seen text.now }
 {

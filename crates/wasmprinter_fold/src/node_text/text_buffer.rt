@@ -141,7 +141,8 @@ impl Texts {
     }
 
     /// Writes the text of an operator's node, its word and immediates, and returns its head. `labels` are those that
-    /// are open before the operator.
+    /// are open before the operator. The head's text is in the buffer (`inside`), and with its place and hint it is
+    /// that of the operator (`shows`). The text is appended: older texts stay, also after an error (`grows`).
     ///
     /// # Errors
     ///
@@ -164,7 +165,8 @@ impl Texts {
         Ok(self.head(start, next.place, next.hint))
     }
 
-    /// Writes the text of the node of a case of an `if`, which is its keyword, and returns its head.
+    /// Writes the text of the node of a case of an `if`, which is its keyword, and returns its head. The head's text is
+    /// in the buffer (`inside`) and is the keyword (`shows`). Older texts stay, also after an error (`grows`).
     ///
     /// # Errors
     ///

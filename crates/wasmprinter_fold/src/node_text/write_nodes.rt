@@ -130,7 +130,8 @@ fn write_front<O: Output>(out: &mut O, form: Form, nesting: u64, text: &str, tas
     }
 }
 
-/// Writes nodes at nesting depth `nesting`, with their texts from `text`.
+/// Writes nodes in order at nesting depth `nesting`, each as a group around those that it holds, with their texts from
+/// `text`.
 ///
 /// If an allocation fails, records in `out` that memory ran out.
 pub fn write_nodes<O: FoldingOutput>(

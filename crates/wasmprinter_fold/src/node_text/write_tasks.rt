@@ -75,7 +75,9 @@ fn put_held<'a>(tasks: &mut Vec<Task<'a>>, held: &'a [Node], depth: u64) -> Resu
     }
 }
 
-/// Pushes what follows the front of a task.
+/// Pushes the tasks for the rest of a task whose front is written. The stack then stands for the rest of the task,
+/// followed by the tasks below it (`pieces`), and takes fewer steps than with the whole task (`steps`). A task is sound
+/// if its texts are in the buffer and its nodes are well formed.
 ///
 /// # Errors
 ///

@@ -99,7 +99,8 @@ impl Builder {
     ghost use Rattle.wasmprinter_fold.specs.Building.{start, step, Top, Plain, Opens, OpensIf, Else, Ends};
     ghost use Rattle.wasmprinter_fold.specs.Frames.{State, Represents};
 
-    /// Creates a builder without nodes. This allocates no memory.
+    /// Creates a builder without nodes. It represents the first state: no nodes and no open block. This allocates no
+    /// memory.
     pub fn new(alloc: Global) -> Builder
         ensures { Represents result start }
     {
@@ -110,7 +111,8 @@ impl Builder {
         }
     }
 
-    /// Removes all nodes and keeps the capacity.
+    /// Removes all nodes and keeps the capacity. The builder then represents the first state: no nodes and no open
+    /// block.
     pub fn clear(&mut self)
         ensures { Represents self.new start }
     {
@@ -120,7 +122,8 @@ impl Builder {
     }
 
     /// Returns the nodes of the operators so far. The open parts of blocks form one row: each part follows the nodes
-    /// before its block.
+    /// before its block. Each node follows those that it holds (`whole`). If no block is open, the nodes are those of
+    /// the state that the builder represents (`closed`).
     pub fn nodes(&self) -> &[Node]
         ensures whole { (s : State) → Represents self.now s → IsPostorder result.now }
         ensures closed { (s : State) → Represents self.now s → s.outer ≡ Top → forest_of result.now ≡ s.groups }
@@ -129,7 +132,7 @@ impl Builder {
     }
 
     /// Adds a plain operator. Its operands are the last nodes whose results sum up to exactly `operands`, if there are
-    /// such nodes.
+    /// such nodes. On `Ok`, the builder represents the state after that step (`step`).
     ///
     /// # Errors
     ///
@@ -146,7 +149,8 @@ impl Builder {
         push_candidate(&mut self.candidates, cut, counted)
     }
 
-    /// Opens a block.
+    /// Opens a block. On `Ok`, the builder represents the state after that step (`step`): the block is the innermost
+    /// one.
     ///
     /// # Errors
     ///
@@ -168,7 +172,7 @@ impl Builder {
     }
 
     /// Opens an `if` and its first case, whose node gets the head `then`. The last node of the open part, if there is
-    /// one, becomes the predicate.
+    /// one, becomes the predicate. On `Ok`, the builder represents the state after that step (`step`).
     ///
     /// # Errors
     ///
@@ -200,7 +204,8 @@ impl Builder {
 
     /// Closes the first case of the innermost `if` and opens the second, whose node gets the head `otherwise`.
     ///
-    /// If the open part is not the first case of an `if`, nothing changes.
+    /// If the open part is not the first case of an `if`, nothing changes. On `Ok`, the builder represents the state
+    /// after that step (`step`).
     ///
     /// # Errors
     ///
@@ -227,7 +232,8 @@ impl Builder {
         Ok(())
     }
 
-    /// Closes the innermost open block and adds its node. If no block is open, nothing changes.
+    /// Closes the innermost open block and adds its node. If no block is open, nothing changes. On `Ok`, the builder
+    /// represents the state after that step (`step`).
     ///
     /// # Errors
     ///

@@ -93,7 +93,8 @@ fn count_within(row: &[Candidate], limit: u128) -> usize
     count_within_far(row, limit, end)
 }
 
-/// Searches a row for the operands of an operator that takes `operands` values.
+/// Searches a row for the operands of an operator that takes `operands` values. If the row is that of the nodes `f`,
+/// the result is that of the search which the definition makes in `f` (`operand_search`).
 pub fn find_operands(row: &[Candidate], operands: u32) -> Taken
     requires { (first : ℕ) × (f : NodesOf NodeText) × (row.now ≡ candidates first f) }
     ensures { (first : ℕ) (f : NodesOf NodeText) → row.now ≡ candidates first f → result ≡ outcome (operand_search operands f) }
@@ -114,7 +115,8 @@ pub fn find_operands(row: &[Candidate], operands: u32) -> Taken
     }
 }
 
-/// Returns the position after the last candidate of a row. `end` is the index of the node after the row.
+/// Returns the position after the last candidate of a row: all its nodes `f` are before it. `end` is the index of the
+/// node after the row.
 pub fn end_of(row: &[Candidate], end: usize) -> Cut
     ensures { (first : ℕ) (f : NodesOf NodeText) → IsEndOf row.now end first f → IsCut first f result }
 {
@@ -126,7 +128,8 @@ pub fn end_of(row: &[Candidate], end: usize) -> Cut
 }
 
 /// Returns where the operands of a plain operator begin, and the number of results of its node. `end` is the number of
-/// all nodes.
+/// all nodes. If no operands are found, the position is after all nodes. The number of results is then `results`, or
+/// the greatest 32-bit number if the operands would begin inside the results of one node.
 pub fn operands_cut(row: &[Candidate], end: usize, operands: u32, results: u32) -> (Cut, u32)
     requires { (first : ℕ) × (f : NodesOf NodeText) × IsEndOf row.now end first f }
     ensures { (first : ℕ) (f : NodesOf NodeText) → IsEndOf row.now end first f →
@@ -161,6 +164,10 @@ pub fn predicate_of(row: &[Candidate], end: usize) -> Cut
 /// Adds a candidate with this number of results. Its node, with the nodes that it holds, starts at the cut.
 ///
 /// Its sum is that of the results of at most `cut.start + 1` nodes, so it is less than 2^97.
+///
+/// # Errors
+///
+/// Returns an error if an allocation fails.
 pub fn push_candidate(all: &mut Vec<Candidate>, cut: Cut, results: u32) -> Result<(), AllocError>
     requires { (first : ℕ) × (f : NodesOf NodeText) × IsCut first f cut × IsLimited f }
     ensures { OnOk result ((first : ℕ) (f : NodesOf NodeText) →

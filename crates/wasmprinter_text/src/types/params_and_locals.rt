@@ -138,8 +138,9 @@ fn write_variable_as<O: Output>(
     }
 }
 
-/// Writes a variable and returns the state before the next one. `owner` is the function of the variable, or `None`
-/// for a parameter without a function.
+/// Writes a variable, a parameter or a local, and returns the state before the next one: after a variable with an
+/// identifier its group is closed, after another one it is open. `owner` is the function of the variable, or `None` for
+/// a parameter without a function.
 pub fn write_variable<O: Output>(
     out: &mut O,
     identifiers: &Identifiers<'_, '_>,
