@@ -26,13 +26,6 @@ static uint8_t *read_file(const char *path, size_t *len) {
     return bytes;
 }
 
-/* Reports an error on standard error. */
-static void report(WasmprinterStatus status, uint64_t detail) {
-    char text[WASMPRINTER_ERROR_TEXT_LEN + 1];
-    wasmprinter_error_text(status, detail, wasmprinter_buffer(text, sizeof text));
-    fprintf(stderr, "example: %s\n", text);
-}
-
 /* Writes text to standard output. Returns whether all of it was written. */
 static bool write_text(WasmprinterBuffer text) {
     if (fwrite(text.ptr, 1, text.len, stdout) != text.len || fflush(stdout) != 0) {
@@ -43,15 +36,17 @@ static bool write_text(WasmprinterBuffer text) {
 }
 
 /* Writes the text of a module to standard output, or an error to standard error. Returns whether the text was written. */
-static bool print(WasmprinterBytes wasm) {
+static bool print(const void *bytes, size_t len) {
     WasmprinterBuffer text = {NULL, 0};
     WasmprinterResult result;
-    WasmprinterStatus status = wasmprinter_print_alloc(wasm, NULL, NULL, NULL, &text, &result);
+    WasmprinterStatus status = wasmprinter_print_alloc(wasmprinter_bytes(bytes, len), NULL, NULL, NULL, &text, &result);
     bool is_written = false;
     if (status == WASMPRINTER_OK) {
         is_written = write_text(text);
     } else {
-        report(status, result.detail);
+        char message[WASMPRINTER_ERROR_TEXT_LEN + 1];
+        wasmprinter_error_text(status, result.detail, wasmprinter_buffer(message, sizeof message));
+        fprintf(stderr, "example: %s\n", message);
     }
     free(text.ptr);
     return is_written;
@@ -66,9 +61,9 @@ int main(int argc, char **argv) {
     uint8_t *wasm = read_file(argv[1], &len);
     bool is_printed = false;
     if (wasm != NULL) {
-        is_printed = print(wasmprinter_bytes(wasm, len));
+        is_printed = print(wasm, len);
     } else {
-        report(WASMPRINTER_UNREADABLE, 0);
+        fputs("example: the file can't be read\n", stderr);
     }
     free(wasm);
     return is_printed ? EXIT_SUCCESS : EXIT_FAILURE;
