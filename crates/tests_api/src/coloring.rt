@@ -7,7 +7,7 @@ use std::io::Write;
 use std::test::Fail;
 use wasmprinter::Error;
 use wasmprinter::print::{Ansi, Color, ColorSpec, NoColor, PrintTermcolor, WriteColor};
-use wasmprinter::printed_text_laws::colors_add_sequences_alone;
+use wasmprinter::printer_laws::colors_add_sequences_alone;
 use wasmprinter_samples::{EMPTY_TEXT, PREAMBLE};
 
 #[test]

@@ -6,7 +6,7 @@ use std::io;
 use std::test::Fail;
 use wasmprinter::Error;
 use wasmprinter::print::{NoColor, Print, PrintFmtWrite, PrintIoWrite, PrintText, WriteBytes};
-use wasmprinter::printed_text_laws::text_printers_gain_the_text;
+use wasmprinter::printer_laws::text_printers_gain_the_text;
 use wasmprinter_samples::{EMPTY_TEXT, PREAMBLE, expect_text};
 
 /// A printer that keeps its text, and takes runs of characters.

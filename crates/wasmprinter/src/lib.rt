@@ -17,7 +17,7 @@ mod file_printing;
 mod file_source;
 mod find_operator_line;
 mod offsets_and_lines;
-pub mod printed_text_laws;
+pub mod printer_laws;
 mod string_printer;
 mod string_printing;
 
