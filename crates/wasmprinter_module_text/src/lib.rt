@@ -2,7 +2,7 @@
 //! sections among them (appendix "Custom Annotations"), and the whole module, to any printer.
 #![tactic(auto)]
 
-mod annotation_nesting;
+mod annotation_depths;
 mod custom_sections;
 mod data_segments;
 mod dylink;
