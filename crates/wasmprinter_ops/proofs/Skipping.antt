@@ -12,7 +12,7 @@ use Rattle.wasmprinter_spec.specs.Instructions.{operator, expression, Closed, cl
 use Rattle.wasmprinter_bytes.specs.Reads.{end_of}
 use Rattle.wasmprinter_ops.specs.Operators.{OperatorsAndEnd, operators, operators_in, HasExpression}
 use Rattle.wasmprinter_ops.specs.Nesting.{Steps, open_after}
-use Rattle.wasmprinter_ops.specs.declared.nesting.Step.TheVariants as steps
+use Rattle.wasmprinter_ops.specs.declared.open_blocks.Step.TheVariants as steps
 use Rattle.wasmprinter_ops.proofs.Stepping.{stepped-item, takes_byte as item_takes_byte}
 use Rattle.wasmprinter_ops.proofs.Walking.{has_operators, operators_are}
 use Rattle.wasmprinter_ops.proofs.Entries.{spans-push}

@@ -3,10 +3,10 @@ use Rattle.std.specs.Prelude.{◌≡◌, List, [], ◌∷◌, map, reverse, Opti
 use Rattle.wasmprinter_spec.specs.Row.{Role, Opens, OpensIf, OpensTry}
 use Rattle.wasmprinter_spec.specs.Stepped.{Move, On, Stop, Never, by_move}
 use Rattle.wasmprinter_spec.specs.Nesting.{Frame, InBlock, InIf, InTry, InCatch, Open, advance}
-use Rattle.wasmprinter_ops.specs.declared.nesting.Frame.{Frame as ProgramFrame}
-use Rattle.wasmprinter_ops.specs.declared.nesting.Frame.TheVariants as frames
-use Rattle.wasmprinter_ops.specs.declared.nesting.Step.{Step}
-use Rattle.wasmprinter_ops.specs.declared.nesting.Step.TheVariants as steps
+use Rattle.wasmprinter_ops.specs.declared.open_blocks.Frame.{Frame as ProgramFrame}
+use Rattle.wasmprinter_ops.specs.declared.open_blocks.Frame.TheVariants as frames
+use Rattle.wasmprinter_ops.specs.declared.open_blocks.Step.{Step}
+use Rattle.wasmprinter_ops.specs.declared.open_blocks.Step.TheVariants as steps
 
 -- The open block that an open block of the program represents.
 abbrev pub frame_view : ProgramFrame → Frame

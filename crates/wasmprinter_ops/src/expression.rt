@@ -7,7 +7,7 @@ ghost use Rattle.wasmprinter_bytes.specs.Reads.{end_of};
 ghost use Rattle.wasmprinter_bytes.specs.Lists.{Takes, reader};
 ghost use Rattle.wasmprinter_ops.specs.Operators.{SkipsOperators, ReachesBlock};
 
-use crate::nesting::{Blocks, Step};
+use crate::open_blocks::{Blocks, Step};
 use crate::operator::{Operator, pass_operator, read_placed};
 use std::alloc::Global;
 use std::marker::Model;

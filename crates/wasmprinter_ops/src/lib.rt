@@ -8,9 +8,9 @@ pub mod composite_types;
 pub mod expression;
 mod fixed_bytes;
 pub mod mem_arg;
-mod nesting;
 mod opcode_tables;
 pub mod opcodes_and_shapes;
+mod open_blocks;
 pub mod operator;
 mod val_types;
 

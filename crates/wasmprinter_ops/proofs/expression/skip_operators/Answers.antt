@@ -2,7 +2,7 @@ use Rattle.std.proofs.Common.{subst, sym}
 use Rattle.wasmprinter_spec.specs.Nesting.{Open, advance}
 use Rattle.wasmprinter_ops.specs.Shapes.{role_view}
 use Rattle.wasmprinter_ops.specs.Nesting.{Steps}
-use Rattle.wasmprinter_ops.specs.declared.nesting.Step.{Step}
+use Rattle.wasmprinter_ops.specs.declared.open_blocks.Step.{Step}
 use Rattle.wasmprinter_ops.proofs.Skipping.{Skipped, skipped_none, takes_byte, on_more}
 use Rattle.wasmprinter_ops.proofs.expression.skip_operators.Goals as goal
 
