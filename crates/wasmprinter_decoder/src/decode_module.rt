@@ -22,7 +22,7 @@ use crate::sections::Section;
 use crate::start::Start;
 use crate::tables::Table;
 use crate::tags::Tag;
-use crate::types::Types;
+use crate::type_section::Types;
 use std::alloc::{AllocError, Global};
 use std::marker::Model;
 use wasmprinter_bytes::cursor::Cursor;

@@ -26,7 +26,7 @@ mod start;
 mod table_types;
 mod tables;
 mod tags;
-mod types;
+mod type_section;
 
 pub use code::{Body, BodyParts, LocalEntry, Locals};
 pub use custom_section_positions::{CustomEntry, SectionKind};
@@ -46,5 +46,5 @@ pub use start::Start;
 pub use table_types::TableType;
 pub use tables::Table;
 pub use tags::Tag;
-pub use types::TypeGroup;
+pub use type_section::TypeGroup;
 pub use wasmprinter_custom::{Name, NameEntries, Names, Space};

@@ -17,7 +17,7 @@ use crate::memories::Memory;
 use crate::start::Start;
 use crate::tables::Table;
 use crate::tags::Tag;
-use crate::types::{TypeGroup, Types};
+use crate::type_section::{TypeGroup, Types};
 use std::marker::Model;
 use wasmprinter_ops::composite_types::FuncType;
 

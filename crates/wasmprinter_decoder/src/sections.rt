@@ -18,7 +18,7 @@ use crate::memories::{Memory, read_memories};
 use crate::start::{Start, read_start};
 use crate::tables::{Table, read_tables};
 use crate::tags::{Tag, read_tags};
-use crate::types::Types;
+use crate::type_section::Types;
 use std::alloc::Global;
 use wasmprinter_bytes::Error;
 use wasmprinter_bytes::cursor::Cursor;

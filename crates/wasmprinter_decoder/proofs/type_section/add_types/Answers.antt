@@ -1,6 +1,6 @@
 use Rattle.std.proofs.Common.{◌≡◌, List, [], ◌∷◌, ◌++◌, append_assoc, append-nil, refl, sym, ap, ◌∙◌}
 use Rattle.wasmprinter_spec.specs.Types.{SubType}
-use Rattle.wasmprinter_decoder.proofs.types.add_types.Goals as goal
+use Rattle.wasmprinter_decoder.proofs.type_section.add_types.Goals as goal
 
 pub loop-sub_type-init : goal.loop-sub_type-init
 loop-sub_type-init c = record { can = tt; ends = tt; all = refl }

@@ -1,5 +1,5 @@
 use Rattle.std.proofs.Common.{◌≡◌, ◌++◌}
-use Rattle.wasmprinter_decoder.proofs.types.add_types.Given as goal
+use Rattle.wasmprinter_decoder.proofs.type_section.add_types.Given as goal
 
 abbrev pub invariant-loop-sub_type : goal.invariant-loop-sub_type
 invariant-loop-sub_type l = record {

@@ -2,8 +2,8 @@ use Rattle.std.proofs.Common.{rules, ap, arith}
 use Rattle.wasmprinter_spec.specs.Grammar.{Input}
 use Rattle.wasmprinter_spec.specs.Binary.Types.{subtype}
 use Rattle.wasmprinter_decoder.proofs.GroupPlaces.{group_place}
-use Rattle.wasmprinter_decoder.proofs.types.TypeGroupDecodeIn.read.Goals.{then-is_explicit+in_ok-u8+in_ok-types, else-is_explicit+in_ok-types-2}
-use Rattle.wasmprinter_decoder.proofs.types.TypeGroupDecodeIn.read.Goals as goal
+use Rattle.wasmprinter_decoder.proofs.type_section.TypeGroupDecodeIn.read.Goals.{then-is_explicit+in_ok-u8+in_ok-types, else-is_explicit+in_ok-types-2}
+use Rattle.wasmprinter_decoder.proofs.type_section.TypeGroupDecodeIn.read.Goals as goal
 
 pub invariant_of-result : goal.invariant_of-result
 invariant_of-result c written = elim c.if-is_explicit.branch [

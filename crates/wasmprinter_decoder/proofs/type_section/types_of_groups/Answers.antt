@@ -3,7 +3,7 @@ use Rattle.wasmprinter_spec.specs.Grammar.{Placed}
 use Rattle.wasmprinter_spec.specs.Types.{SubType}
 use Rattle.wasmprinter_spec.specs.Placed.{TypeGroup}
 use Rattle.wasmprinter_decoder.proofs.Flattening.{types_from, types_from-next, types_from-end}
-use Rattle.wasmprinter_decoder.proofs.types.types_of_groups.Goals as goal
+use Rattle.wasmprinter_decoder.proofs.type_section.types_of_groups.Goals as goal
 
 pub loop-group-init : goal.loop-group-init
 loop-group-init c = ap (λ (ts : List SubType). ts ++ types_from c.args.groups.now 0) c.new-types.ensures.items

@@ -5,7 +5,7 @@ use Rattle.wasmprinter_spec.specs.Binary.Types.{group}
 use Rattle.wasmprinter_spec.specs.Sections.{FunctionSection, TypeSection, holds}
 use Rattle.wasmprinter_decoder.specs.Refusals.{HoldsItems}
 use Rattle.wasmprinter_decoder.proofs.SectionLists.{list_fault, list_grown}
-use Rattle.wasmprinter_decoder.proofs.types.Types.read.Goals as goal
+use Rattle.wasmprinter_decoder.proofs.type_section.Types.read.Goals as goal
 
 pub returns-in_err-groups : goal.returns-in_err-groups
 returns-in_err-groups c =
