@@ -1,7 +1,7 @@
 -- The numbers of the colors in the code.
 use Rattle.std.specs.Prelude.{ℕ, Option, Some, None}
-use Rattle.wasmprinter_writers.specs.declared.palette.Color.{Color}
-use Rattle.wasmprinter_writers.specs.declared.palette.Color.TheVariants.{Red, Green, Yellow, Magenta, Cyan}
+use Rattle.wasmprinter_writers.specs.declared.color_enum.Color.{Color}
+use Rattle.wasmprinter_writers.specs.declared.color_enum.Color.TheVariants.{Red, Green, Yellow, Magenta, Cyan}
 
 -- The number of a color in ECMA-48.
 abbrev pub number_of : Color → ℕ

@@ -3,6 +3,7 @@
 #![tactic(auto)]
 
 mod ansi;
+mod color_enum;
 mod color_spec;
 mod contents_laws;
 mod io_write;
@@ -10,7 +11,6 @@ mod line_iterator;
 mod line_tracker;
 mod line_tracker_laws;
 mod no_color;
-mod palette;
 mod termcolor;
 mod write_bytes;
 mod write_color;
@@ -23,7 +23,7 @@ pub use line_iterator::{LineStart, OffsetsAndLines};
 pub use line_tracker::LineTracker;
 pub use line_tracker_laws::no_line_is_lost;
 pub use no_color::NoColor;
-pub use palette::Color;
+pub use color_enum::Color;
 pub use termcolor::PrintTermcolor;
 pub use write_bytes::WriteBytes;
 pub use write_color::WriteColor;
