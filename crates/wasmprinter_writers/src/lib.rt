@@ -12,7 +12,7 @@ mod line_tracker;
 mod line_tracker_laws;
 mod no_color;
 mod termcolor;
-mod write_bytes;
+mod write_bytes_trait;
 mod write_color;
 
 pub use ansi::Ansi;
@@ -25,5 +25,5 @@ pub use line_tracker_laws::no_line_is_lost;
 pub use no_color::NoColor;
 pub use color_enum::Color;
 pub use termcolor::PrintTermcolor;
-pub use write_bytes::WriteBytes;
+pub use write_bytes_trait::WriteBytes;
 pub use write_color::WriteColor;
