@@ -6,7 +6,7 @@ ghost use Rattle.wasmprinter_spec.specs.Customs.Hints.{hints_of_next, entries_af
 ghost use Rattle.wasmprinter_spec.specs.FirstByte.{only};
 ghost use Rattle.wasmprinter_bytes.specs.Reads.{Decodes};
 
-use crate::borrowed_items::{ItemsIn, ReadFrom};
+use crate::lazy_borrowing_items::{ItemsIn, ReadFrom};
 use std::marker::Model;
 use wasmprinter_bytes::Malformed;
 use wasmprinter_bytes::cursor::Cursor;

@@ -3,7 +3,7 @@ ghost use Rattle.std.specs.Prelude.{◌≡◌};
 ghost use Rattle.wasmprinter_spec.specs.Name.{vec, name};
 ghost use Rattle.wasmprinter_bytes.specs.Reads.{Reads};
 
-use crate::borrowed_items::{ItemsIn, ReadFrom};
+use crate::lazy_borrowing_items::{ItemsIn, ReadFrom};
 use std::marker::Model;
 use wasmprinter_bytes::Malformed;
 use wasmprinter_bytes::cursor::Cursor;

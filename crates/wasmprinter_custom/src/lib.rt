@@ -6,12 +6,12 @@
 //!   allocating.
 #![tactic(auto)]
 
-mod borrowed_items;
 mod branch_hints;
 mod dylink;
 mod dylink_name_list;
 mod identifier_chars;
 mod item_identifiers;
+mod lazy_borrowing_items;
 mod name_position_guesses;
 mod name_section;
 mod name_subsection_ids;
@@ -24,7 +24,7 @@ mod space;
 mod subsections_in_use;
 mod symbol_flags;
 
-pub use borrowed_items::{ItemsIn, ReadFrom, ValueSource};
+pub use lazy_borrowing_items::{ItemsIn, ReadFrom, ValueSource};
 pub use branch_hints::{FunctionHints, Hint, Hints, is_hint_section};
 pub use dylink::{Content, Dylink, ExportInfo, ImportInfo, MemInfo, Subsection};
 pub use dylink_name_list::DylinkNames;

@@ -3,7 +3,7 @@ use Rattle.std.proofs.lemmas.Result.{err_from_is_err_and}
 use Rattle.wasmprinter_spec.specs.Grammar.{Input}
 use Rattle.wasmprinter_bytes.specs.Items.{skip_at}
 use Rattle.wasmprinter_bytes.proofs.ItemsInBytes.{skip_more, skip_none, skip_end, HasItems-skip, vec_some, vec_none}
-use Rattle.wasmprinter_custom.proofs.borrowed_items.ItemsIn.read.Goals as goal
+use Rattle.wasmprinter_custom.proofs.lazy_borrowing_items.ItemsIn.read.Goals as goal
 
 pub loop-preserved : goal.loop-preserved
 loop-preserved g c =

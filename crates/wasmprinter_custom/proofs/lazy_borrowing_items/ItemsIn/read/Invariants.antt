@@ -1,6 +1,6 @@
 use Rattle.std.proofs.Common.{◌≡◌, ◌-◌}
 use Rattle.wasmprinter_bytes.specs.Items.{skip_at}
-use Rattle.wasmprinter_custom.proofs.borrowed_items.ItemsIn.read.Given as goal
+use Rattle.wasmprinter_custom.proofs.lazy_borrowing_items.ItemsIn.read.Given as goal
 
 abbrev pub invariant-loop : goal.invariant-loop
 invariant-loop g l =

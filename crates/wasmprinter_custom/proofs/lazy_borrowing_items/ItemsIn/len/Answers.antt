@@ -1,6 +1,6 @@
 use Rattle.std.proofs.Common.{length, sym, ap, ◌∙◌}
 use Rattle.wasmprinter_bytes.proofs.ItemsInBytes.{length-items_of}
-use Rattle.wasmprinter_custom.proofs.borrowed_items.ItemsIn.len.Goals as goal
+use Rattle.wasmprinter_custom.proofs.lazy_borrowing_items.ItemsIn.len.Goals as goal
 
 pub returns : goal.returns
 returns g c =
