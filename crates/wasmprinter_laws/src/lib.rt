@@ -1,7 +1,7 @@
 //! Laws over the definitions. A law is a theorem: the contract of a function with an empty body, which the toolchain
 //! proves. The laws contain no code of the printer: they relate the grammar, the layout and the reader of text.
 //!
-//! - `text_reads_back`: printed text reads back as the module that the bytes encode.
+//! - `module_text_reads_back`: printed text reads back as the module that the bytes encode.
 //! - `literals_read_back`: quoted strings, floats, and lists of calls with one text.
 //! - `line_places`: the lines of a text and their places in the module.
 //! - `folded_trees`: folding and unfolding lists of operators.
@@ -12,7 +12,7 @@ mod colors;
 mod folded_trees;
 mod line_places;
 mod literals_read_back;
-mod text_reads_back;
+mod module_text_reads_back;
 
 pub use colors::{
     color_adds_sequences, colored_groups_are_nodes, colored_modules_have_trees, colored_text_keeps,
@@ -31,7 +31,7 @@ pub use literals_read_back::{
     alike_calls_have_one_text, float_text_reads, floats_are_exact, quoted_bytes_read,
     quoted_text_reads,
 };
-pub use text_reads_back::{
+pub use module_text_reads_back::{
     bytes_spell_at_most_one_module, entries_are_given, folded_groups_are_nodes,
     folded_modules_have_trees, folded_operators_read_back, folded_text_reads_as_flat, hints_stay,
     identifiers_are_apart, identifiers_are_named, identifiers_resolve, labels_mean_their_blocks,

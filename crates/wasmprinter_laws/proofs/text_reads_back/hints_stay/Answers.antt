@@ -1,5 +1,0 @@
-use Rattle.wasmprinter_laws.proofs.Hints.Kept.{hints_stay}
-use Rattle.wasmprinter_laws.proofs.text_reads_back.hints_stay.Goals as goal
-
-pub returns : goal.returns
-returns c = hints_stay

@@ -1,5 +1,0 @@
-use Rattle.wasmprinter_laws.proofs.Names.Distinct.{identifiers_are_apart}
-use Rattle.wasmprinter_laws.proofs.text_reads_back.identifiers_are_apart.Goals as goal
-
-pub returns : goal.returns
-returns c = identifiers_are_apart
