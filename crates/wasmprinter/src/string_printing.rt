@@ -55,8 +55,8 @@ impl Config {
 }
 
 /// Returns the text of a module in the binary format, with the default options. The bytes then encode a module, and
-/// the text contains only tabs, line feeds and the characters from the space to the tilde. It reads back as the
-/// module, if every index that the module uses is declared.
+/// the text contains only tabs, line feeds and the characters from the space to the tilde. It has exactly the module's
+/// branch hints, if these are valid, and reads back as the module, if every index that the module uses is declared.
 ///
 /// ```
 /// let text = print_bytes(rt.alloc(), b"\0asm\x01\0\0\0")?;

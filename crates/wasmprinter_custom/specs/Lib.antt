@@ -9,8 +9,8 @@ pub mod Judgements
 pub mod LabelViews
 pub mod Labels
 pub mod Lookups
-pub mod Roles
 pub mod Shown
 pub mod Sound
 pub mod Spaces
+pub mod Treatments
 pub mod Views

@@ -8,8 +8,8 @@ ghost use Rattle.wasmprinter_custom.specs.Contents.{content_view};
 ghost use Rattle.wasmprinter_custom.specs.Flags.{bits_of};
 ghost use Rattle.wasmprinter_custom.specs.Judgements.{found_view, HasKnownId, judgement_view};
 
-use crate::lazy_borrowing_items::{ItemsIn, ReadFrom};
 use crate::dylink_name_list::DylinkNames;
+use crate::lazy_borrowing_items::{ItemsIn, ReadFrom};
 use crate::symbol_flags::SymbolFlags;
 use bitflags::Flags;
 use std::marker::Model;

@@ -24,12 +24,12 @@ mod space;
 mod subsections_in_use;
 mod symbol_flags;
 
-pub use lazy_borrowing_items::{ItemsIn, ReadFrom, ValueSource};
 pub use branch_hints::{FunctionHints, Hint, Hints, is_hint_section};
 pub use dylink::{Content, Dylink, ExportInfo, ImportInfo, MemInfo, Subsection};
 pub use dylink_name_list::DylinkNames;
 pub use identifier_chars::is_id;
 pub use item_identifiers::{Identifier, Identifiers};
+pub use lazy_borrowing_items::{ItemsIn, ReadFrom, ValueSource};
 pub use name_section::read_names;
 pub use names::{LabelName, Name, NameEntries, Names, NamesBuilder};
 pub use producers::{Producers, ProducersField, Value, Values};

@@ -4,8 +4,8 @@ ghost use Rattle.std.specs.Prelude.{◌≡◌};
 ghost use Rattle.wasmprinter_spec.specs.Grammar.{value_with_place};
 ghost use Rattle.wasmprinter_spec.specs.Customs.Producers.{value as value_grammar, field as field_grammar, producers, have_id_names};
 
-use crate::lazy_borrowing_items::{ItemsIn, ReadFrom};
 use crate::identifier_chars::is_id;
+use crate::lazy_borrowing_items::{ItemsIn, ReadFrom};
 use std::marker::Model;
 use wasmprinter_bytes::Malformed;
 use wasmprinter_bytes::cursor::Cursor;

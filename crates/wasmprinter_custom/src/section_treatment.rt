@@ -4,7 +4,7 @@ ghost use Rattle.wasmprinter_spec.specs.Placed.{custom_of};
 ghost use Rattle.wasmprinter_spec.specs.Customs.{custom_treatment_of, producers_treatment, dylink_treatment};
 ghost use Rattle.wasmprinter_spec.specs.Customs.Producers.{producers};
 ghost use Rattle.wasmprinter_spec.specs.Customs.Dylink.{judgement_of};
-ghost use Rattle.wasmprinter_custom.specs.Roles.{treatment_view};
+ghost use Rattle.wasmprinter_custom.specs.Treatments.{treatment_view};
 
 use crate::branch_hints::HINT_SECTION;
 use crate::dylink::{Dylink, DylinkContents};

@@ -13,6 +13,8 @@ mod folded_trees;
 mod line_places;
 mod literals_read_back;
 mod module_text_reads_back;
+mod names_and_identifiers;
+mod plain_text;
 
 pub use colors::{
     color_adds_sequences, colored_groups_are_nodes, colored_modules_have_trees, colored_text_keeps,
@@ -28,15 +30,20 @@ pub use line_places::{
     functions_have_lines, lines_begin_after_feeds, lines_join_to_the_text,
 };
 pub use literals_read_back::{
-    alike_calls_have_one_text, float_text_reads, floats_are_exact, quoted_bytes_read,
-    quoted_text_reads,
+    float_text_reads, floats_are_exact, quoted_bytes_read, quoted_text_reads,
 };
 pub use module_text_reads_back::{
-    bytes_spell_at_most_one_module, entries_are_given, folded_groups_are_nodes,
-    folded_modules_have_trees, folded_operators_read_back, folded_text_reads_as_flat, hints_stay,
-    identifiers_are_apart, identifiers_are_named, identifiers_resolve, labels_mean_their_blocks,
-    modules_have_identifiers, name_maps_end_at_the_first_error, name_sections_give_entries,
-    name_sections_give_one_list, named_operators_read_back, places_and_indent_keep_tokens,
-    plain_text_has_no_color, plain_text_is_utf8, plain_texts_join, printed_operators_read_back,
-    printed_text_is_plain, printed_text_reads_back, reader_takes_nested_operators,
+    bytes_spell_at_most_one_module, folded_groups_are_nodes, folded_modules_have_trees,
+    folded_operators_read_back, folded_text_reads_as_flat, hints_stay, named_operators_read_back,
+    places_and_indent_keep_tokens, printed_operators_read_back, printed_text_reads_back,
+    reader_takes_nested_operators,
+};
+pub use names_and_identifiers::{
+    entries_are_given, identifiers_are_apart, identifiers_are_named, identifiers_resolve,
+    labels_mean_their_blocks, modules_have_identifiers, name_maps_end_at_the_first_error,
+    name_sections_give_entries, name_sections_give_one_list,
+};
+pub use plain_text::{
+    alike_calls_have_one_text, plain_text_has_no_color, plain_text_is_utf8, plain_texts_join,
+    printed_text_is_plain,
 };

@@ -1,13 +1,7 @@
-//! Laws of tokens: quoted strings and the text of floats read back, and lists of calls that are alike have one text.
-//! The proofs, in `proofs/Tokens`, show what the text of any list of pieces lexes to. The proofs of the reading law
-//! cite these lemmas.
+//! Laws of tokens: quoted strings and the text of floats read back. The proofs, in `proofs/Tokens`, show what the text
+//! of any list of pieces lexes to. The proofs of the reading law cite these lemmas.
 
-ghost use Rattle.wasmprinter_spec.specs.Laws.{AlikeHaveOneText, QuotedTextReads, QuotedBytesRead, FloatTextReads, FloatsAreExact};
-
-/// Two lists of calls that differ only in how text is split into pieces have the same text.
-pub fn alike_calls_have_one_text()
-    ensures { AlikeHaveOneText }
-{}
+ghost use Rattle.wasmprinter_spec.specs.Laws.{QuotedTextReads, QuotedBytesRead, FloatTextReads, FloatsAreExact};
 
 /// The quoted text of any string is one token: that string (section 6.3 of the standard, "Strings").
 pub fn quoted_text_reads()

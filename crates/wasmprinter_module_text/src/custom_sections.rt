@@ -5,7 +5,7 @@ ghost use Rattle.wasmprinter_spec.specs.Customs.{custom_treatment_of};
 ghost use Rattle.wasmprinter_spec.specs.Piece.{Piece, Claimed};
 ghost use Rattle.wasmprinter_spec.specs.Layout.Customs.{treatment_part, custom_part, parts_at};
 ghost use Rattle.wasmprinter_decoder.specs.Places.{after_view};
-ghost use Rattle.wasmprinter_custom.specs.Roles.{treatment_view};
+ghost use Rattle.wasmprinter_custom.specs.Treatments.{treatment_view};
 
 use crate::dylink::write_dylink;
 use crate::producers::write_producers;

@@ -20,8 +20,8 @@ pub trait Output {
     /// The options that were chosen for the layout.
     ghost chosen: { Options };
 
-    /// These calls were made, up to the first error: a failed call, memory that ran out, or a refusal. If an error was
-    /// recorded before, no call was made.
+    /// These calls were made, up to how text is split into calls, and up to the first error: a failed call, memory that
+    /// ran out, or a refusal. If an error was recorded before, no call was made.
     ghost called: { Self → Self → List Call → Type 0 };
 
     /// The calls of these pieces were made, up to the first error in the same way.

@@ -65,7 +65,7 @@ pub fn open_unnamed<O: Output>(out: &mut O)
     write_in_style(out, Style::Keyword, "");
 }
 
-/// Closes a group on the current line.
+/// Writes a closing parenthesis on the current line.
 pub fn write_close_paren<O: Output>(out: &mut O)
     ensures { O.wrote out.old out.new (CloseParen ∷ []) }
 {

@@ -1,5 +1,5 @@
 use Rattle.wasmprinter_laws.proofs.Names.Resolving.{identifiers_resolve}
-use Rattle.wasmprinter_laws.proofs.module_text_reads_back.identifiers_resolve.Goals as goal
+use Rattle.wasmprinter_laws.proofs.names_and_identifiers.identifiers_resolve.Goals as goal
 
 pub returns : goal.returns
 returns c = identifiers_resolve

@@ -1,7 +1,7 @@
 use Rattle.std.specs.Prelude.{length}
 use Rattle.wasmprinter_spec.specs.Names.Section.{subsections}
 use Rattle.wasmprinter_spec.proofs.NameSections.{gives_some, gives_one}
-use Rattle.wasmprinter_laws.proofs.module_text_reads_back.name_sections_give_one_list.Goals as goal
+use Rattle.wasmprinter_laws.proofs.names_and_identifiers.name_sections_give_one_list.Goals as goal
 
 pub returns : goal.returns
 returns c at =

@@ -1,0 +1,60 @@
+//! Laws of names: which names a name section gives, that identifiers are distinct and resolve, and which block a label
+//! means.
+
+ghost use Rattle.wasmprinter_laws.specs.NameLaws.{NamesAreOneList, EntriesAreGiven, NameMapsEndAtFirstError, BytesGiveEntries};
+ghost use Rattle.wasmprinter_laws.specs.NameLaws.{IdentifiersAreApart, IdentifiersAreNamed, ModulesHaveIdentifiers, IdentifiersResolve};
+ghost use Rattle.wasmprinter_laws.specs.LabelLaws.{LabelsMeanTheirBlocks};
+
+/// Any bytes, taken as the data of a name section, give exactly one list of entries (appendix "Name Section" of the
+/// standard). An entry gives a name to one item.
+pub fn name_sections_give_one_list()
+    ensures { NamesAreOneList }
+{}
+
+/// The list of entries from which the items of a module have their names is the one that the grammar of name sections
+/// gives for the same data.
+pub fn entries_are_given()
+    ensures { EntriesAreGiven }
+{}
+
+/// The entries that a name map gives are encoded one after the other from its start. Either their number is the map's
+/// count, or the bytes after them encode no further entry, and reading ends there with an error.
+pub fn name_maps_end_at_the_first_error()
+    ensures { NameMapsEndAtFirstError }
+{}
+
+/// Each entry that the bytes of a name section give has an index of 32 bits and a name in UTF-8.
+pub fn name_sections_give_entries()
+    ensures { BytesGiveEntries }
+{}
+
+/// If the entries of name sections have indices of 32 bits and names in UTF-8, no identifier means two items of one
+/// index space, whether identifiers are synthesized for items without names or not.
+pub fn identifiers_are_apart()
+    ensures { IdentifiersAreApart }
+{}
+
+/// If the entries of name sections have indices of 32 bits and names in UTF-8, each identifier that items get is UTF-8
+/// and not empty, and each name is UTF-8.
+pub fn identifiers_are_named()
+    ensures { IdentifiersAreNamed }
+{}
+
+/// For each module that bytes encode, the name sections give identifiers that are UTF-8 and not empty. No identifier
+/// means two items of one space, of one function or of one type.
+pub fn modules_have_identifiers()
+    ensures { ModulesHaveIdentifiers }
+{}
+
+/// If no two items of an index space have the same identifier, the reader accepts the declarations of the identifiers
+/// as distinct and resolves each identifier to the index of its item. The space has at most 2^64 items.
+pub fn identifiers_resolve()
+    ensures { IdentifiersResolve }
+{}
+
+/// A label whose block has an identifier is printed by that identifier, and the reader resolves it to that block. If a
+/// block further in was given the same name, the label is printed by its number instead. The condition: if two blocks
+/// have the same identifier, and one may be within the other, both were given the same name.
+pub fn labels_mean_their_blocks()
+    ensures { LabelsMeanTheirBlocks }
+{}
