@@ -13,7 +13,7 @@ ghost use Rattle.wasmprinter_flat.specs.Contexts.{names_in, labels_around, label
 use crate::immediate_context::Context;
 use crate::label_immediates::write_label;
 use wasmprinter_custom::Identifiers;
-use wasmprinter_ops::casts::{cast_source, cast_target};
+use wasmprinter_ops::cast_flags::{cast_source, cast_target};
 use wasmprinter_ops::{HeapType, RefType, ValType, ValTypes};
 use wasmprinter_print::Output;
 use wasmprinter_text::parens_and_words::{open_group_space, write_close_paren, write_space};

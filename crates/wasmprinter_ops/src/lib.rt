@@ -3,7 +3,7 @@
 #![tactic(auto)]
 
 pub mod block_immediates;
-pub mod casts;
+pub mod cast_flags;
 pub mod composite_types;
 pub mod expression;
 mod fixed_bytes;

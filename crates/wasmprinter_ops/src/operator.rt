@@ -9,7 +9,7 @@ ghost use Rattle.wasmprinter_ops.specs.Operators.{placed_view, AfterOpcode, Pass
 ghost use Rattle.wasmprinter_ops.specs.Shapes.{shape_view};
 
 use crate::block_immediates::{BlockType, Catches, Targets, read_block_type, read_catches};
-use crate::casts::MOST_FLAGS;
+use crate::cast_flags::MOST_FLAGS;
 use crate::fixed_bytes::{read_bytes, read_f32_bits, read_f64_bits};
 use crate::mem_arg::MemArg;
 use crate::opcodes_and_shapes::{Listed, Opcode, Role, Shape, is_prefix};

@@ -4,7 +4,7 @@
 use super::{Wanted, is_operator};
 use wasmprinter_bytes::Malformed;
 use wasmprinter_bytes::cursor::Cursor;
-use wasmprinter_ops::casts::{cast_source, cast_target};
+use wasmprinter_ops::cast_flags::{cast_source, cast_target};
 use wasmprinter_ops::operator::read_operator;
 use wasmprinter_ops::{HeapType, RefType, ValType};
 

@@ -2,7 +2,7 @@ use Rattle.std.proofs.Common.{◌≡◌, ℕ, zero, suc, ◌<◌, ◌*◌, ◌/�
 use Rattle.std.proofs.lemmas.Nat.Bits.{and_pow}
 use Rattle.wasmprinter_spec.specs.Types.{ref_type}
 use Rattle.wasmprinter_ops.specs.ValTypes.{heap_view}
-use Rattle.wasmprinter_ops.proofs.casts.cast_target.Goals as goal
+use Rattle.wasmprinter_ops.proofs.cast_flags.cast_target.Goals as goal
 
 -- For a bit b, 2 b is not 0 exactly if b is 1.
 bit_set : (b : ℕ) → b < 2 → not (eqb (b * 2) 0) ≡ eqb b 1
