@@ -22,7 +22,7 @@ use wasmprinter_print::Output;
 use wasmprinter_text::declarations_and_indices::{self, write_declaration_of, write_index_of};
 use wasmprinter_text::type_use::{self, Signatures};
 use wasmprinter_text::types;
-use wasmprinter_text::types::composite::write_type_field;
+use wasmprinter_text::types::definitions::write_type_field;
 
 /// The nesting depth of the fields of a module.
 pub const FIELD_NESTING: u64 = 1;

@@ -9,7 +9,7 @@ ghost use Rattle.wasmprinter_spec.specs.Layout.Groups.{line_group, line_group_sp
 ghost use Rattle.wasmprinter_custom.specs.Shown.{names_of_identifiers};
 ghost use Rattle.wasmprinter_ops.specs.ValTypes.{heap_view, ref_view, val_type_view, val_types_view};
 
-pub mod composite;
+pub mod definitions;
 pub mod params_and_locals;
 
 use crate::declarations_and_indices::write_index_of;

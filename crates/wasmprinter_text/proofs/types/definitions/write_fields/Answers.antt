@@ -4,7 +4,7 @@ use Rattle.wasmprinter_custom.specs.Shown.{names_of_identifiers}
 use Rattle.wasmprinter_text.specs.Items.{owned_field}
 use Rattle.wasmprinter_text.proofs.Composites.{fields-none, fields-next}
 use Rattle.wasmprinter_text.proofs.Counting.{none-left}
-use Rattle.wasmprinter_text.proofs.types.composite.write_fields.Goals as goal
+use Rattle.wasmprinter_text.proofs.types.definitions.write_fields.Goals as goal
 
 pub loop-number-preserved : goal.loop-number-preserved
 loop-number-preserved g c =

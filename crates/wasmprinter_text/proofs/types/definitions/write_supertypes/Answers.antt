@@ -1,6 +1,6 @@
 use Rattle.wasmprinter_custom.specs.Shown.{names_of_identifiers}
 use Rattle.wasmprinter_text.proofs.Composites.{supertypes-none, supertypes-next}
-use Rattle.wasmprinter_text.proofs.types.composite.write_supertypes.Goals as goal
+use Rattle.wasmprinter_text.proofs.types.definitions.write_supertypes.Goals as goal
 
 pub returns : goal.returns
 returns g c =

@@ -1,7 +1,7 @@
 use Rattle.std.proofs.Common.{rules, ◌≡◌, true, false, ◌&&◌, ◌==◌, length}
 use Rattle.wasmprinter_custom.specs.Shown.{names_of_identifiers}
 use Rattle.wasmprinter_text.proofs.Composites.{sub-plain, sub-grouped}
-use Rattle.wasmprinter_text.proofs.types.composite.write_sub_type.Goals as goal
+use Rattle.wasmprinter_text.proofs.types.definitions.write_sub_type.Goals as goal
 
 pub returns-then-is_plain : goal.returns-then-is_plain
 returns-then-is_plain g c =

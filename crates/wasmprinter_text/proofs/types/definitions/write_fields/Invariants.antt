@@ -3,7 +3,7 @@ use Rattle.wasmprinter_spec.specs.Layout.Groups.{numbered_pieces}
 use Rattle.wasmprinter_custom.specs.Shown.{names_of_identifiers}
 use Rattle.wasmprinter_ops.specs.Types.{fields_view}
 use Rattle.wasmprinter_text.specs.Items.{owned_field}
-use Rattle.wasmprinter_text.proofs.types.composite.write_fields.Given as goal
+use Rattle.wasmprinter_text.proofs.types.definitions.write_fields.Given as goal
 
 abbrev pub invariant-loop-number : goal.invariant-loop-number
 invariant-loop-number g l = record {

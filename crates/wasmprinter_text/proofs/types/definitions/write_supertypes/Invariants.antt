@@ -1,6 +1,6 @@
 use Rattle.wasmprinter_spec.specs.Layout.Types.{supertype_pieces}
 use Rattle.wasmprinter_custom.specs.Shown.{names_of_identifiers}
-use Rattle.wasmprinter_text.proofs.types.composite.write_supertypes.Given as goal
+use Rattle.wasmprinter_text.proofs.types.definitions.write_supertypes.Given as goal
 
 abbrev pub invariant-loop-index : goal.invariant-loop-index
 invariant-loop-index g l =
