@@ -15,7 +15,7 @@ pub mod limits;
 pub mod lines;
 pub mod numbers;
 pub mod parens_and_words;
-pub mod single_values;
+pub mod standalone_values;
 pub mod strings;
 pub mod type_use;
 pub mod types;

@@ -1,6 +1,6 @@
 use Rattle.std.proofs.Common.{rules, refl}
 use Rattle.wasmprinter_text.proofs.ValueResults.{value_result}
-use Rattle.wasmprinter_text.proofs.single_values.write_value.Goals as goal
+use Rattle.wasmprinter_text.proofs.standalone_values.write_value.Goals as goal
 
 pub returns : goal.returns
 returns g c =

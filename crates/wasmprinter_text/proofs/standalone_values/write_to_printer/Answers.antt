@@ -1,4 +1,4 @@
-use Rattle.wasmprinter_text.proofs.single_values.write_to_printer.Goals as goal
+use Rattle.wasmprinter_text.proofs.standalone_values.write_to_printer.Goals as goal
 
 pub returns-clause-same : goal.returns-clause-same
 returns-clause-same g c = c.write.ensures.1
