@@ -5,12 +5,12 @@
 //! - `nodes`: the nodes that operators fold into, as one list.
 //! - `node_text`: their texts in one buffer, and the function that writes them without recursion.
 //! - [`Folder`] folds a list of operators and writes its nodes.
-//! - `foldable`: which modules can be folded.
+//! - `fold_refusals`: which modules can be folded.
 #![tactic(auto)]
 
 mod arities;
 mod fold_printer;
-pub mod foldable;
+pub mod fold_refusals;
 mod growing_tree;
 mod node_text;
 mod nodes;
