@@ -5,13 +5,13 @@ ghost use Rattle.wasmprinter_spec.specs.Folding.Arities.{counts_of, signatures_w
 ghost use Rattle.wasmprinter_fold.specs.Counted.{counts_view};
 
 pub mod block_types;
-pub mod callee_types;
 pub mod counts;
 pub mod label_arities;
 mod referenced_items;
 mod resolve_arity;
+pub mod types_by_index;
 
-use crate::arities::callee_types::CalleeTypes;
+use crate::arities::types_by_index::CalleeTypes;
 use crate::arities::counts::{Counts, NOTHING};
 use crate::arities::label_arities::LabelCounts;
 use crate::arities::resolve_arity::counts_by_arity;

@@ -5,7 +5,7 @@ ghost use Rattle.wasmprinter_flat.specs.Settings.{setting_with_names};
 ghost use Rattle.wasmprinter_fold.specs.Gathering.{ImportsFunctionOrTag};
 ghost use Rattle.wasmprinter_fold.specs.Views.{folding_view};
 
-use crate::arities::callee_types::CalleeTypes;
+use crate::arities::types_by_index::CalleeTypes;
 use crate::growing_tree::GrowingTree;
 use crate::node_text::write_nodes::write_nodes;
 use std::alloc::{AllocError, Global};

@@ -5,7 +5,7 @@ ghost use Rattle.wasmprinter_spec.specs.Folding.Arities.{types_of, signatures_wi
 ghost use Rattle.wasmprinter_spec.specs.Folding.Arities.{block_operands, block_results};
 ghost use Rattle.wasmprinter_ops.specs.Blocks.{block_type_view};
 
-use crate::arities::callee_types::CalleeTypes;
+use crate::arities::types_by_index::CalleeTypes;
 use crate::arities::counts::{parameter_count_of, result_count_of};
 use wasmprinter_ops::block_immediates::BlockType;
 

@@ -9,7 +9,7 @@ ghost use Rattle.wasmprinter_ops.specs.Shapes.{role_view};
 ghost use Rattle.wasmprinter_fold.specs.Named.{count_if_any};
 
 use crate::arities::block_types::{block_operands, block_results};
-use crate::arities::callee_types::CalleeTypes;
+use crate::arities::types_by_index::CalleeTypes;
 use std::alloc::{AllocError, Global};
 use std::marker::Model;
 use wasmprinter_ops::block_immediates::BlockType;

@@ -8,7 +8,7 @@ ghost use Rattle.wasmprinter_fold.specs.Named.{function_named, tag_named, type_n
 ghost use Rattle.wasmprinter_fold.specs.Named.{field_count_named, block_gives_in};
 
 use crate::arities::block_types::block_results;
-use crate::arities::callee_types::CalleeTypes;
+use crate::arities::types_by_index::CalleeTypes;
 use wasmprinter_ops::composite_types::FuncType;
 use wasmprinter_ops::operator::Immediates;
 

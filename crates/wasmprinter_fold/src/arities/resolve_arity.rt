@@ -8,7 +8,7 @@ ghost use Rattle.wasmprinter_ops.specs.Arities.{arity_view};
 ghost use Rattle.wasmprinter_ops.specs.Immediates.{immediates_view};
 ghost use Rattle.wasmprinter_fold.specs.Counted.{known_view};
 
-use crate::arities::callee_types::CalleeTypes;
+use crate::arities::types_by_index::CalleeTypes;
 use crate::arities::counts::{Counts, counts_of_call, one_more, operands_and_results};
 use crate::arities::label_arities::LabelCounts;
 use crate::arities::referenced_items::{
