@@ -11,7 +11,7 @@ mod referenced_items;
 mod resolve_arity;
 pub mod types_by_index;
 
-use crate::arities::types_by_index::CalleeTypes;
+use crate::arities::types_by_index::TypesByIndex;
 use crate::arities::counts::{Counts, NOTHING};
 use crate::arities::label_arities::LabelCounts;
 use crate::arities::resolve_arity::counts_by_arity;
@@ -25,7 +25,7 @@ use wasmprinter_ops::operator::Operator;
 /// Counts saturate at the greatest 32-bit number. An operator takes and gives nothing if the item that it refers to
 /// is unknown. A block takes nothing, whatever its parameters are.
 pub fn counts_of(
-    callees: &CalleeTypes,
+    callees: &TypesByIndex,
     own: Option<u32>,
     labels: &LabelCounts,
     operator: &Operator<'_>,

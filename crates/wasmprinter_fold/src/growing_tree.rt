@@ -12,7 +12,7 @@ ghost use Rattle.wasmprinter_fold.specs.Counted.{counts_view};
 ghost use Rattle.wasmprinter_fold.specs.Shown.{ShownNode};
 ghost use Rattle.wasmprinter_fold.specs.Growing.{Shows, GrowsByStep, operator_step, shown_operator, shown_keyword, IsGrown};
 
-use crate::arities::types_by_index::CalleeTypes;
+use crate::arities::types_by_index::TypesByIndex;
 use crate::arities::counts::Counts;
 use crate::arities::counts_of;
 use crate::arities::label_arities::{LabelCounts, label_of_block};
@@ -190,7 +190,7 @@ impl GrowingTree {
     /// Adds the next operator. `labels` are those that are open before it.
     fn fold_next<S: Signatures>(
         &mut self,
-        callees: &CalleeTypes<'_, '_>,
+        callees: &TypesByIndex<'_, '_>,
         setting: &Setting<'_, S>,
         labels: &OpenLabels<'_, '_>,
         own: Option<u32>,
@@ -224,7 +224,7 @@ impl GrowingTree {
     /// Returns an error if an allocation fails. The nodes are then unusable until the next list is folded.
     pub fn fold<S: Signatures>(
         &mut self,
-        callees: &CalleeTypes<'_, '_>,
+        callees: &TypesByIndex<'_, '_>,
         setting: &Setting<'_, S>,
         labels: &mut OpenLabels<'_, '_>,
         own: Option<u32>,

@@ -8,7 +8,7 @@ ghost use Rattle.wasmprinter_ops.specs.Arities.{arity_view};
 ghost use Rattle.wasmprinter_ops.specs.Immediates.{immediates_view};
 ghost use Rattle.wasmprinter_fold.specs.Counted.{known_view};
 
-use crate::arities::types_by_index::CalleeTypes;
+use crate::arities::types_by_index::TypesByIndex;
 use crate::arities::counts::{Counts, counts_of_call, one_more, operands_and_results};
 use crate::arities::label_arities::LabelCounts;
 use crate::arities::referenced_items::{
@@ -21,7 +21,7 @@ use wasmprinter_ops::operator::Immediates;
 /// Returns the operands and results of an operator with the arity, or `None` if the item that it refers to is
 /// unknown.
 pub(crate) fn counts_by_arity(
-    callees: &CalleeTypes,
+    callees: &TypesByIndex,
     own: Option<u32>,
     labels: &LabelCounts,
     arity: Arity,

@@ -12,7 +12,7 @@ use wasmprinter_ops::composite_types::FuncType;
 
 /// The types of the items that a module's operators refer to.
 #[derive(Drop)]
-pub struct CalleeTypes<'m, 'a> {
+pub struct TypesByIndex<'m, 'a> {
     module: &'m Module<'a>,
     /// The type indices of imported functions.
     functions: Vec<u32>,
@@ -20,7 +20,7 @@ pub struct CalleeTypes<'m, 'a> {
     tags: Vec<u32>,
 }
 
-impl<'m, 'a> Model for CalleeTypes<'m, 'a> {
+impl<'m, 'a> Model for TypesByIndex<'m, 'a> {
     ghost use Rattle.std.specs.Prelude.{◌≡◌};
     ghost use Rattle.wasmprinter_spec.specs.Placed.{PlacedModule};
     ghost use Rattle.wasmprinter_spec.specs.Module.{without_places, imported_types, func_import, tag_import};
@@ -34,7 +34,7 @@ impl<'m, 'a> Model for CalleeTypes<'m, 'a> {
         × (c.tags.items ≡ imported_types tag_import (without_places c.module.now.imports)) };
 }
 
-impl<'m, 'a> CalleeTypes<'m, 'a> {
+impl<'m, 'a> TypesByIndex<'m, 'a> {
     /// Gathers the type indices of imported functions and tags, in time proportional to the number of imports. Each
     /// look-up then takes constant time. Contracts see the result as the module.
     ///
@@ -54,7 +54,7 @@ impl<'m, 'a> CalleeTypes<'m, 'a> {
                 ExternType::Table(_) | ExternType::Memory(_) | ExternType::Global(_) => {}
             }
         }
-        Ok(CalleeTypes {
+        Ok(TypesByIndex {
             module,
             functions,
             tags,

@@ -1,6 +1,6 @@
 use Rattle.wasmprinter_spec.specs.Module.{func_import, tag_import}
 use Rattle.wasmprinter_fold.proofs.Gathered.{Gathers}
-use Rattle.wasmprinter_fold.proofs.arities.types_by_index.CalleeTypes.new.Given as goal
+use Rattle.wasmprinter_fold.proofs.arities.types_by_index.TypesByIndex.new.Given as goal
 
 abbrev pub invariant-loop-import : goal.invariant-loop-import
 invariant-loop-import l = record {
