@@ -40,7 +40,9 @@ pub mod print {
 
 /// Writing single values in the text format: floats and quoted strings.
 pub mod text {
-    pub use wasmprinter_text::standalone_values::{write_bytes, write_f32, write_f64, write_quoted};
+    pub use wasmprinter_text::standalone_values::{
+        write_bytes, write_f32, write_f64, write_quoted,
+    };
 }
 
 /// Decoding modules in the binary format, and reading the decoded modules.

@@ -11,10 +11,10 @@ mod referenced_items;
 mod resolve_arity;
 pub mod types_by_index;
 
-use crate::arities::types_by_index::TypesByIndex;
 use crate::arities::counts::{Counts, NOTHING};
 use crate::arities::label_arities::LabelCounts;
 use crate::arities::resolve_arity::counts_by_arity;
+use crate::arities::types_by_index::TypesByIndex;
 use wasmprinter_ops::opcodes_and_shapes::Listed;
 use wasmprinter_ops::operator::Operator;
 

@@ -12,10 +12,10 @@ ghost use Rattle.wasmprinter_fold.specs.Counted.{counts_view};
 ghost use Rattle.wasmprinter_fold.specs.Shown.{ShownNode};
 ghost use Rattle.wasmprinter_fold.specs.Growing.{Shows, GrowsByStep, operator_step, shown_operator, shown_keyword, IsGrown};
 
-use crate::arities::types_by_index::TypesByIndex;
 use crate::arities::counts::Counts;
 use crate::arities::counts_of;
 use crate::arities::label_arities::{LabelCounts, label_of_block};
+use crate::arities::types_by_index::TypesByIndex;
 use crate::node_text::text_buffer::{HintedOperator, Texts};
 use crate::nodes::Builder;
 use std::alloc::{AllocError, Global};

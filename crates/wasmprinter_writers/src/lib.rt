@@ -16,6 +16,7 @@ mod write_bytes_trait;
 mod write_color;
 
 pub use ansi::Ansi;
+pub use color_enum::Color;
 pub use color_spec::ColorSpec;
 pub use contents_laws::{ansi_gains_colored_text, io_write_gains_text, no_color_gains_text};
 pub use io_write::PrintIoWrite;
@@ -23,7 +24,6 @@ pub use line_iterator::{LineStart, OffsetsAndLines};
 pub use line_tracker::LineTracker;
 pub use line_tracker_laws::no_line_is_lost;
 pub use no_color::NoColor;
-pub use color_enum::Color;
 pub use termcolor::PrintTermcolor;
 pub use write_bytes_trait::WriteBytes;
 pub use write_color::WriteColor;

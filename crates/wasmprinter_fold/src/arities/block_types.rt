@@ -5,8 +5,8 @@ ghost use Rattle.wasmprinter_spec.specs.Folding.Arities.{types_of, signatures_wi
 ghost use Rattle.wasmprinter_spec.specs.Folding.Arities.{block_operands, block_results};
 ghost use Rattle.wasmprinter_ops.specs.Blocks.{block_type_view};
 
-use crate::arities::types_by_index::TypesByIndex;
 use crate::arities::counts::{parameter_count_of, result_count_of};
+use crate::arities::types_by_index::TypesByIndex;
 use wasmprinter_ops::block_immediates::BlockType;
 
 /// Returns the number of parameters of the function type with the index, or `None` if there is no such function

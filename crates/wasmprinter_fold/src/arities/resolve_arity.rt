@@ -8,13 +8,13 @@ ghost use Rattle.wasmprinter_ops.specs.Arities.{arity_view};
 ghost use Rattle.wasmprinter_ops.specs.Immediates.{immediates_view};
 ghost use Rattle.wasmprinter_fold.specs.Counted.{known_view};
 
-use crate::arities::types_by_index::TypesByIndex;
 use crate::arities::counts::{Counts, counts_of_call, one_more, operands_and_results};
 use crate::arities::label_arities::LabelCounts;
 use crate::arities::referenced_items::{
     block_gives_in, cast_label_in, count_in, field_count_named, function_named, index_in,
     last_label_in, tag_named, type_named,
 };
+use crate::arities::types_by_index::TypesByIndex;
 use wasmprinter_ops::opcodes_and_shapes::Arity;
 use wasmprinter_ops::operator::Immediates;
 
