@@ -5,14 +5,14 @@
 //! - `nodes`: the nodes that operators fold into, as one list.
 //! - `node_text`: their texts in one buffer, and the function that writes them without recursion.
 //! - [`Folder`] folds a list of operators and writes its nodes.
-//! - `fold_refusals`: which modules can be folded.
+//! - `unfoldable_modules`: which modules can be folded.
 #![tactic(auto)]
 
 mod arities;
 mod fold_printer;
-pub mod fold_refusals;
 mod growing_tree;
 mod node_text;
 mod nodes;
+pub mod unfoldable_modules;
 
 pub use fold_printer::Folder;
