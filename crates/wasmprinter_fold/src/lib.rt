@@ -5,7 +5,7 @@
 //! - `nodes`: the nodes that operators fold into, as one list.
 //! - `node_text`: their texts in one buffer, and the function that writes them without recursion.
 //! - [`Folder`] folds a list of operators and writes its nodes.
-//! - `unfoldable_modules`: which modules can be folded.
+//! - `unfoldable_modules`: which modules can be folded, and the error for the others.
 #![tactic(auto)]
 
 mod arities;
