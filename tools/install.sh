@@ -1,7 +1,7 @@
 #!/bin/sh
-# Builds and installs the program printwasm and the library for C.
+# Builds and installs the programs printwasm and wasm2text and the library for C.
 #
-#   tools/install.sh build FOLDER              proves the crates that changed, and builds the program and the library in the folder
+#   tools/install.sh build FOLDER              proves the crates that changed, and builds the programs and the library in the folder
 #   tools/install.sh install FOLDER [PREFIX]   installs what was built in the folder; needs no `rt` and no compiler
 #   tools/install.sh uninstall [PREFIX]        removes the installed files
 #   tools/install.sh [PREFIX]                  builds and installs
@@ -13,6 +13,7 @@
 # The prefix is /usr/local by default. DESTDIR, if set, is prepended to the path of each file that is installed or removed.
 #
 #   PREFIX/bin/printwasm
+#   PREFIX/bin/wasm2text
 #   PREFIX/include/wasmprinter.h
 #   PREFIX/include/wasmprinter.hpp
 #   PREFIX/lib/cmake/wasmprinter/wasmprinter-config-version.cmake
@@ -22,9 +23,12 @@
 #   PREFIX/lib/libwasmprinter.so.1
 #   PREFIX/lib/pkgconfig/wasmprinter.pc
 #   PREFIX/share/bash-completion/completions/printwasm
+#   PREFIX/share/bash-completion/completions/wasm2text
 #   PREFIX/share/doc/wasmprinter/LICENSE
 #   PREFIX/share/man/man1/printwasm.1
+#   PREFIX/share/man/man1/wasm2text.1
 #   PREFIX/share/zsh/site-functions/_printwasm
+#   PREFIX/share/zsh/site-functions/_wasm2text
 set -eu
 root=$(cd "$(dirname "$0")/.." && pwd)
 work=$(mktemp -d)
@@ -75,10 +79,12 @@ record() {
 build() {
     mkdir -p "$1"
     sources >"$work/sources"
-    # `rt run` leaves the program in crates/printwasm/out
+    # `rt run` leaves a program in the folder `out` of its crate
     printf '\000asm\001\000\000\000' >"$work/empty.wasm"
-    (cd "$root/crates/printwasm" && rt run -- "$work/empty.wasm")
-    cp "$root/crates/printwasm/out/printwasm" "$1/printwasm"
+    for program in printwasm wasm2text; do
+        (cd "$root/crates/$program" && rt run -- "$work/empty.wasm")
+        cp "$root/crates/$program/out/$program" "$1/$program"
+    done
     sh "$root/tools/library.sh" "$1"
     record "$1"
 }
@@ -104,7 +110,12 @@ END_OF_FILE
 
 # each ACTION FOLDER: calls the action with the mode, the source and the target of each file. The target is relative to the prefix.
 each() {
-    "$1" 755 "$2/printwasm" bin/printwasm
+    for program in printwasm wasm2text; do
+        "$1" 755 "$2/$program" "bin/$program"
+        "$1" 644 "$root/man/$program.1" "share/man/man1/$program.1"
+        "$1" 644 "$root/completions/$program.bash" "share/bash-completion/completions/$program"
+        "$1" 644 "$root/completions/_$program" "share/zsh/site-functions/_$program"
+    done
     "$1" 644 "$2/libwasmprinter.a" lib/libwasmprinter.a
     "$1" 755 "$2/libwasmprinter.so.1" lib/libwasmprinter.so.1
     "$1" 644 "$work/wasmprinter.pc" lib/pkgconfig/wasmprinter.pc
@@ -112,9 +123,6 @@ each() {
     "$1" 644 "$root/tools/cmake/wasmprinter-config.cmake" lib/cmake/wasmprinter/wasmprinter-config.cmake
     "$1" 644 "$root/include/wasmprinter.h" include/wasmprinter.h
     [ ! -e "$root/bindings/cpp/wasmprinter.hpp" ] || "$1" 644 "$root/bindings/cpp/wasmprinter.hpp" include/wasmprinter.hpp
-    "$1" 644 "$root/man/printwasm.1" share/man/man1/printwasm.1
-    "$1" 644 "$root/completions/printwasm.bash" share/bash-completion/completions/printwasm
-    "$1" 644 "$root/completions/_printwasm" share/zsh/site-functions/_printwasm
     "$1" 644 "$root/LICENSE" share/doc/wasmprinter/LICENSE
 }
 
@@ -122,7 +130,7 @@ each() {
 need() {
     [ ! -s "$2" ] || return 0
     case $2 in
-    "$built"/*) fail "missing: $2. \`sh tools/install.sh build $built\` builds the program and the library. On four processors this takes an" \
+    "$built"/*) fail "missing: $2. \`sh tools/install.sh build $built\` builds the programs and the library. On four processors this takes an" \
         "hour to an hour and a half the first time, and seconds if no source changed since." ;;
     *) fail "missing: $2" ;;
     esac
@@ -150,7 +158,7 @@ put_all() {
 # install_from FOLDER
 install_from() {
     put_all "$1"
-    echo "install: the program, the library and the headers are under $to"
+    echo "install: the programs, the library and the headers are under $to"
     case ${DESTDIR:-}$prefix in
     /usr | /usr/local) echo "install: run ldconfig as root, so that programs find libwasmprinter.so.1" ;;
     esac

@@ -1,8 +1,8 @@
 #!/bin/sh
 # Tests tools/link.sh and tools/install.sh.
 #
-# tools/packaging.sh: needs no `rt`, since a library (tools/packaging) and an empty program stand in for the proved ones.
-# tools/packaging.sh FOLDER: uses the library and the program that `tools/install.sh build FOLDER` has built.
+# tools/packaging.sh: needs no `rt`, since a library (tools/packaging) and empty programs stand in for the proved ones.
+# tools/packaging.sh FOLDER: uses the library and the programs that `tools/install.sh build FOLDER` has built.
 #
 # Checks
 #
@@ -10,7 +10,7 @@
 #   what a program doesn't call, and that tools/link.sh refuses a library without one of the header's functions;
 # - the installed files: which they are, programs that are built by pkg-config and CMake, that `uninstall` removes each file, and that nothing is
 #   installed if the program is missing;
-# - the options in the manual page and in the completions, and the messages in the manual page.
+# - the options in the manual pages and in the completions, and the messages in the manual page of printwasm.
 #
 # Uses `cc`, GNU binutils, pkg-config and bash, and cmake and groff if they are there. Takes seconds.
 set -eu
@@ -58,7 +58,7 @@ cc -O2 -fPIC -Wall -Wextra -Wpedantic -Werror -c "$sources/heap.c" -o heap.o
 ar rcs heap.a heap.o
 if [ $# = 0 ]; then
     sh "$root/tools/link.sh" printer.a heap.a built
-    printf '#!/bin/sh\n' >built/printwasm
+    printf '#!/bin/sh\n' | tee built/printwasm >built/wasm2text
 fi
 readelf -d "$built/libwasmprinter.so.1" | grep -q 'soname: \[libwasmprinter.so.1\]' || fail "wrong soname"
 [ "$(readlink "$built/libwasmprinter.so")" = libwasmprinter.so.1 ] || fail "libwasmprinter.so is no link to libwasmprinter.so.1"
@@ -103,24 +103,31 @@ if command -v cmake >cmake.log; then
     expect_text cmake/caller_static
 fi
 
-# the options are those of the usage line, and the messages those of the README
-sed -n "s/^echo '\(usage: printwasm .*\)' >err$/\1/p" "$root/tools/program.sh" | grep -o -e '--[a-z][a-z-]*' | LC_ALL=C sort >options
-sed 's/\\-/-/g; s/\\(aq/'"'"'/g' "$root/man/printwasm.1" >manual
-for file in "$root/completions/printwasm.bash" "$root/completions/_printwasm" manual; do
-    # `--x` is the name of a file in the manual page
-    grep -o -e '--[a-z][a-z-]*' "$file" | grep -vx -e --x | LC_ALL=C sort -u >options_here
-    expect "options in $file" options_here <options
-done
+# expect_options PROGRAM SOURCE: checks that the options in the manual page and in the completions of a program are those in the source.
+expect_options() {
+    grep -o -e '--[a-z][a-z-]*' "$2" | LC_ALL=C sort -u >options
+    sed 's/\\-/-/g; s/\\(aq/'"'"'/g' "$root/man/$1.1" >manual
+    for file in "$root/completions/$1.bash" "$root/completions/_$1" manual; do
+        # `--x` is the name of a file in a manual page
+        grep -o -e '--[a-z][a-z-]*' "$file" | grep -vx -e --x | LC_ALL=C sort -u >options_here
+        expect "options in $file" options_here <options
+    done
+    if command -v groff >log; then
+        groff -man -ww -z "$root/man/$1.1" 2>warnings
+        expect "warnings about the manual page" warnings </dev/null
+    fi
+}
+
+# the options are those of the usage line and of the help, and the messages those of the README
+expect_options wasm2text "$root/crates/wasm2text/src/help.rt"
+sed -n "s/^echo '\(usage: printwasm .*\)' >err$/\1/p" "$root/tools/program.sh" >usage
+expect_options printwasm usage
 # shellcheck disable=SC2016 # the backquotes are those of the table
-sed -n '/^| Message |/,/^$/s/^| `\([^`]*\)` |.*/\1/p' "$root/README.md" >messages
+sed -n '/^| Message |/,/^$/s/^| \(`[^|]*\) | .*/\1/p' "$root/README.md" | grep -o '`[^`]*`' | tr -d '`' >messages
 [ "$(wc -l <messages)" -ge 13 ] || fail "no table of messages in the README"
 while read -r message; do
     grep -qxF -e ".B $message" manual || fail "no message in the manual page: $message"
 done <messages
-if command -v groff >log; then
-    groff -man -ww -z "$root/man/printwasm.1" 2>warnings
-    expect "warnings about the manual page" warnings </dev/null
-fi
 bash -c '. "$0"; COMP_WORDS=(printwasm --f) COMP_CWORD=1; _printwasm; echo "${COMPREPLY[@]}"' "$root/completions/printwasm.bash" >completed
 echo --fold | expect "completion in bash" completed
 echo 'packaging: the library and the installed files are as typed'
