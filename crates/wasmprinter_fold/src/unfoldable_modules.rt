@@ -59,8 +59,8 @@ fn check_printed_hints(options: &PrintOptions, module: &Module<'_>) -> Result<()
 }
 
 /// Checks, before anything is printed, that everything that the options print of a module can be folded. On `Ok`, the
-/// printed lists of operators have none of the operators and hints below. Whether the options ask for folding isn't
-/// looked at. Allocates no memory.
+/// printed lists of operators have none of the operators and hints below. The result does not depend on whether the
+/// options ask for folding. Allocates no memory.
 ///
 /// # Errors
 ///

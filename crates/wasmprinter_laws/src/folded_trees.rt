@@ -36,9 +36,9 @@ pub fn folding_loses_nothing()
     ensures { UnfoldingRule }
 {}
 
-/// A list of operators has a folded layout if it is well nested and no operator belongs to legacy exception handling
-/// (`folded`), and only then (`only`). This holds for any options, names, hints, and types of the items that the
-/// operators name.
+/// A list of operators has a folded layout if it is well nested and no operator is `try`, `catch`, `catch_all` or
+/// `delegate` (`folded`), and only then (`only`). This holds for any options, names, hints, and types of the items that
+/// the operators name.
 pub fn nested_operators_are_folded()
     ensures folded { (s : Setting) (signatures : Signatures) → FoldedRule s signatures }
     ensures only { (s : Setting) (signatures : Signatures) → FoldingRule s signatures }
