@@ -21,8 +21,8 @@ pub enum Error {
         /// - A name is not UTF-8: the first byte of its length.
         /// - Two sections disagree about a count: the end of the module.
         ///
-        /// The contracts of readers only bound it: it isn't before the place where the reader began, and not after the
-        /// end of the bytes. Tests check which place it is.
+        /// The contracts of readers only bound it: it isn't before the first byte of the value that is read, and not
+        /// after the end of the bytes. Tests check which place it is.
         place: u64,
     },
     /// The bytes are marked as a component.

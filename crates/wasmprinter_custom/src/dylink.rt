@@ -91,7 +91,8 @@ impl MemInfo {
         self.table_size
     }
 
-    /// Returns the exponent `n` of the table alignment: it must be aligned to 2^n elements. `n` may be any `u32`.
+    /// Returns the exponent `n` of the table alignment: the table must be aligned to 2^n elements.
+    /// `n` may be any `u32`.
     pub fn table_alignment(&self) -> u32
         ensures { result ≡ self.now.table_alignment }
     {
