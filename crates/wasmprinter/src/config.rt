@@ -165,10 +165,14 @@ impl Config {
     /// The printer is asked whether it claims each custom section, `name` and `metadata.code.branch_hint` included.
     /// A claimed section is not printed; its names and hints still apply.
     ///
-    /// On `Ok`, the bytes encode a module, and the printer received the calls of the module's text (`printed`). If the
-    /// indent consists of spaces and tabs, and `skeleton` is off, that text without ANSI escape sequences has exactly
-    /// the module's branch hints, if these are valid. It also reads back as the module, if every index that the module
-    /// uses is declared and no custom section was claimed.
+    /// On `Ok`, the bytes encode a module, and the printer received the calls of the module's text (`printed`). How
+    /// that text is split into calls isn't specified. If the indent consists of spaces and tabs, and `skeleton` is off,
+    /// that text without ANSI escape sequences has exactly the module's branch hints, if these are valid. It also reads
+    /// back as the module, if every index that the module uses is declared and no custom section was claimed.
+    ///
+    /// Hints are valid if the functions of the last hint section are defined and increase, and if the offsets in each
+    /// function are those of operators before the last `end` and increase. An index is declared if it refers to an
+    /// item, and to a function type or a field of a structure type where one is required. Labels may refer to nothing.
     ///
     /// ```
     /// let mut printer = PrintIoWrite(Vec::new(rt.alloc()));

@@ -13,9 +13,8 @@ use wasmprinter_bytes::Error;
 /// Returns the text of the module in a file, with the default options. The text is that of the bytes that the
 /// source returns for exactly this path.
 ///
-/// The text is that of [`print_bytes`], with the same promises: it reads back as the module if every index that the
-/// module uses is declared. No contract says what a file of the system contains. For these files the contract says
-/// only that the text is that of some bytes.
+/// The text is that of [`print_bytes`], with the same promises under the same conditions. No contract says what a file
+/// of the system contains. For these files the contract says only that the text is that of some bytes.
 ///
 /// If `module.wasm` has the bytes of a module without fields:
 ///

@@ -15,8 +15,9 @@ use wasmprinter_ops::expression::OperatorsReader;
 /// is returned.
 ///
 /// Returns `None` if the function or the operator does not exist, or if no line begins with the operator's place.
-/// Every operator is found in the complete lines that `Config::offsets_and_lines` returned for this module, if its
-/// bodies were printed flat. Allocates nothing.
+/// Every operator is found in the complete lines that `Config::offsets_and_lines` returned for this module, if
+/// `skeleton` and folding were off. The returned line is then the only one with the operator's place. Allocates
+/// nothing.
 ///
 /// With a module `IDENTITY` whose only function returns its parameter:
 ///

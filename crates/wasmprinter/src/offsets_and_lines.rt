@@ -21,6 +21,10 @@ impl Config {
     /// stays before the first line. The lines, joined, are the text that [`Config::print_to_string`] returns (`lines`).
     /// The line starts do not decrease, and each is at a character boundary of `storage` (`boundaries`).
     ///
+    /// If `skeleton` and folding are off, each function has a line for its header, one for its locals, if it has any,
+    /// and one for each of its operators, in this order. Only lines of branch hints come between them. Each is the only
+    /// line with its place.
+    ///
     /// Unlike the contract of [`Config::offsets_and_lines`], the contract of this method says what `storage` holds
     /// after an error.
     ///
@@ -60,8 +64,8 @@ impl Config {
     ///
     /// The place of a line is a byte offset from the start of the module, or `None` if the line shows nothing of
     /// the module. Each line ends with its line feed. The old text of `storage` stays before the first line and is
-    /// part of no line. The lines, joined, are the text that [`Config::print_to_string`] returns. Iterating allocates
-    /// nothing.
+    /// part of no line. The lines, joined, are the text that [`Config::print_to_string`] returns. The lines of
+    /// functions are as in [`Config::print_with_line_starts`]. Iterating allocates nothing.
     ///
     /// With a module `IDENTITY` whose only function returns its parameter:
     ///

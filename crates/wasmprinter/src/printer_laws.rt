@@ -12,8 +12,9 @@ use crate::print::{Ansi, NoColor, Print, PrintTermcolor, PrintText};
 use std::io::Write;
 
 /// If a module is printed with the same options through [`Ansi`] and through [`NoColor`], deleting the ANSI escape
-/// sequences from what the first writer gains gives what the second writer gains. Both writers specify the bytes
-/// that they hold, and the indent consists of spaces and tabs. Operators may be folded or flat.
+/// sequences from what the first writer gains gives what the second writer gains. The indent consists of spaces and
+/// tabs. The law says nothing of a writer that doesn't specify, before printing, the bytes that it holds. Operators may
+/// be folded or flat.
 pub fn colors_add_sequences_alone<V: Write, W: Write>()
     ensures { (o : _) (bytes : List ℕ) → IsBlank o.indent → (s t : _) (x y : _)
         → Printed (change ⟦<PrintTermcolor<Ansi<V>> as Print>⟧.meaning s t) (⟦<PrintTermcolor<Ansi<V>> as Print>⟧.colors s) o bytes

@@ -26,7 +26,8 @@ impl Config {
     ///
     /// If the indent consists of spaces and tabs, the text contains only tabs, line feeds and the characters from the
     /// space to the tilde. If `skeleton` is off too, the text has exactly the module's branch hints, if these are
-    /// valid, and reads back as the module, if every index that the module uses is declared.
+    /// valid, and reads back as the module, if every index that the module uses is declared. [`Config::print`] says
+    /// when hints are valid and indices declared.
     ///
     /// With a module `IDENTITY` whose only function returns its parameter:
     ///
@@ -40,7 +41,8 @@ impl Config {
     /// # Errors
     ///
     /// The errors of [`Config::print`], with the causes that are listed there, except that `Printer` is never returned.
-    /// `Memory` is also returned if the text can't grow.
+    /// `Memory` is also returned if the text can't grow. `DylinkSubsection` is returned for the first `dylink.0`
+    /// section with an unknown subsection, since no section is claimed.
     pub fn print_to_string(&self, alloc: Global, wasm: &[u8]) -> Result<String, Error>
         ensures printed { IfOk result (λ text. IsTextOf self.now wasm.now (string_bytes text)) }
         ensures refused { IfErr result (IsTextRefusal self.now wasm.now) }
@@ -57,6 +59,7 @@ impl Config {
 /// Returns the text of a module in the binary format, with the default options. The bytes then encode a module, and
 /// the text contains only tabs, line feeds and the characters from the space to the tilde. It has exactly the module's
 /// branch hints, if these are valid, and reads back as the module, if every index that the module uses is declared.
+/// [`Config::print`] says when hints are valid and indices declared.
 ///
 /// ```
 /// let text = print_bytes(rt.alloc(), b"\0asm\x01\0\0\0")?;
@@ -65,7 +68,15 @@ impl Config {
 ///
 /// # Errors
 ///
-/// The errors of [`Config::print_to_string`].
+/// The errors of [`Config::print_to_string`] that are possible with the default options. No other error is returned:
+///
+/// - `Component`: the bytes are marked as a component. This error takes precedence over all others.
+/// - `Malformed`: the bytes are not in the binary format.
+/// - `TooManyLocals`, `TooManyFunctions`: the module exceeds a limit of this printer.
+/// - `EmptyTableInit`: the initialiser of a table has no operators.
+/// - `DylinkSubsection`: a custom section `dylink.0` has an unknown subsection. The id is that of the first such
+///   subsection in the first such section.
+/// - `Memory`: an allocation failed.
 pub fn print_bytes(alloc: Global, wasm: &[u8]) -> Result<String, Error>
     ensures printed { IfOk result (λ text. HasText wasm.now (string_bytes text)) }
     ensures refused { IfErr result (IsTextRefusal defaults wasm.now) }

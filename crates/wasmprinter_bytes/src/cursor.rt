@@ -78,7 +78,7 @@ fn with_low_bits_signed(low: u8, high: i64) -> i64
 }
 
 impl<'a> Cursor<'a> {
-    /// Returns a cursor at the first of `bytes`, whose place is `place`.
+    /// Returns a cursor at the first of `bytes`, whose place is `place`. The place of their end must be below 2^64.
     pub fn new(place: u64, bytes: &'a [u8]) -> Self
         requires { place + length bytes.now < 2 ^ 64 }
         ensures { result ≡ record { place = place; bytes = bytes.now } }
@@ -134,7 +134,7 @@ impl<'a> Cursor<'a> {
         }
     }
 
-    /// Returns a second cursor, over the next `len` bytes only.
+    /// Returns a second cursor, over the next `len` bytes only. At least that many bytes must remain.
     pub fn front(&self, len: usize) -> Cursor<'a>
         requires { len ≤ length self.now.bytes }
         ensures { result ≡ record { place = self.now.place; bytes = take len self.now.bytes } }
@@ -185,7 +185,8 @@ impl<'a> Cursor<'a> {
     ///
     /// # Errors
     ///
-    /// `Malformed` if fewer bytes remain, with the place of the next byte.
+    /// `Malformed` if fewer bytes remain, with the place of the next byte. The contract only bounds the place, from
+    /// that of the next byte to the end of the bytes.
     pub fn take(&mut self, len: usize) -> Result<&'a [u8], Malformed>
         ensures { Decodes (λ b. b.now) (take_bytes len).parse self.old result self.new }
     {
@@ -198,11 +199,13 @@ impl<'a> Cursor<'a> {
         Ok(bytes)
     }
 
-    /// Returns a cursor over the next `len` bytes only, at the same place, and advances past them.
+    /// Returns a cursor over the next `len` bytes only, at the same place, and advances past them. After an error, the
+    /// cursor may have advanced.
     ///
     /// # Errors
     ///
-    /// `Malformed` if fewer bytes remain, with the place of the next byte.
+    /// `Malformed` if fewer bytes remain, with the place of the next byte. The contract only bounds the place, from
+    /// that of the next byte to the end of the bytes.
     pub fn part(&mut self, len: usize) -> Result<Cursor<'a>, Malformed>
         ensures decodes { Decodes (λ c. c.bytes) (take_bytes len).parse self.old result self.new }
         ensures place { IfOk result (λ c. c.place ≡ self.old.place) }
@@ -289,7 +292,8 @@ impl<'a> Cursor<'a> {
     /// # Errors
     ///
     /// `Malformed` if the bytes do not encode one, with the place of the first byte that is not
-    /// allowed, or of the end of the bytes.
+    /// allowed, or of the end of the bytes. The contract only bounds the place, from that of the next byte to the end
+    /// of the bytes.
     pub fn u32(&mut self) -> Result<u32, Malformed>
         ensures { Decodes (λ n. n) u32_grammar.parse self.old result self.new }
     {
@@ -365,6 +369,8 @@ impl<'a> Cursor<'a> {
     /// - If the length is not encoded, as [`Cursor::u32`].
     /// - `Malformed` if too few bytes follow, with the place after the length.
     /// - `Malformed` if the bytes are not UTF-8, with the place of the length.
+    ///
+    /// The contract only bounds the place, from that of the length to the end of the bytes.
     pub fn name(&mut self) -> Result<&'a str, Malformed>
         ensures { Decodes (λ s. s.now) name.parse self.old result self.new }
     {

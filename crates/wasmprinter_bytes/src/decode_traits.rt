@@ -50,7 +50,7 @@ pub trait DecodeIn<'a>: Drop {
 ///
 /// - `Malformed` if the bytes do not encode the count or one of the values, with a place
 ///   as [`Error::Malformed`](crate::Error::Malformed) describes it.
-/// - `Memory` if an allocation fails. Nothing is allocated before a first value is read.
+/// - `Memory` if an allocation fails. Nothing is allocated before a first value is read. No other error is returned.
 pub fn read_list<'a, T: DecodeIn<'a>>(
     alloc: Global,
     cursor: &mut Cursor<'a>,
@@ -87,9 +87,10 @@ pub trait GrownIn<'a>: Drop {
 ///
 /// # Errors
 ///
-/// - `Malformed` if the bytes do not encode the count.
-/// - The errors of reading a value.
-/// - `Memory` if an allocation fails. Nothing is allocated if the count is 0.
+/// - `Malformed` if the bytes do not encode the count or one of the values, with a place
+///   as [`Error::Malformed`](crate::Error::Malformed) describes it.
+/// - `Memory` if an allocation fails, for the list or for a value. Nothing is allocated if the count is 0. No other
+///   error is returned.
 pub fn read_grown_list<'a, T: GrownIn<'a>>(
     alloc: Global,
     cursor: &mut Cursor<'a>,

@@ -64,7 +64,7 @@ pub fn read_items<'a, T: Decode>(cursor: &mut Cursor<'a>) -> Result<Items<'a, T>
 }
 
 impl<'a, T: Decode> Items<'a, T> {
-    /// Returns the number of values.
+    /// Returns the number of values that are left, without those that `next` has returned.
     pub fn len(&self) -> u32
         ensures { result ≡ length self.now }
     {
@@ -72,6 +72,7 @@ impl<'a, T: Decode> Items<'a, T> {
     }
 
     /// Returns the values in order.
+    /// They are those that are left, without those that `next` has returned.
     pub fn iter(&self) -> Items<'a, T>
         ensures { result ≡ self.now }
     {

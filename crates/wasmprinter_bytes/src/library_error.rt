@@ -20,6 +20,9 @@ pub enum Error {
         /// - The preamble is another one or is cut off: 0.
         /// - A name is not UTF-8: the first byte of its length.
         /// - Two sections disagree about a count: the end of the module.
+        ///
+        /// The contracts of readers only bound it: it isn't before the first byte of the value that is read, and not
+        /// after the end of the bytes. Tests check which place it is.
         place: u64,
     },
     /// The bytes are marked as a component.

@@ -25,7 +25,7 @@ const MOST_HINTS: u32 = 131_071;
 /// The size of a hint in bytes.
 const HINT_SIZE: u8 = 0x01;
 
-/// Reports whether sections with this name hold branch hints.
+/// Reports whether sections with this name hold branch hints: whether it is `metadata.code.branch_hint`.
 pub fn is_hint_section(name: &str) -> bool
     ensures { result ≡ bytes_eq name.now (codes "metadata.code.branch_hint") }
 {
@@ -234,7 +234,10 @@ impl<'a> Hints<'a> {
     }
 
     /// Returns the hints of a section, or no hints if the section is malformed. `place` is the place of
-    /// its bytes after the name.
+    /// its bytes after the name. The place of their end must be below 2^64.
+    ///
+    /// A section counts as malformed too if it lists more than 1,000,000 functions, or more than 131,071 hints of one
+    /// function. Whether the functions and operators of the hints exist isn't checked.
     pub fn of_section(place: u64, bytes: &'a [u8]) -> Self
         requires { place + length bytes.now < 2 ^ 64 }
         ensures { result ≡ hints_given (record { place = place; value = bytes.now }) }

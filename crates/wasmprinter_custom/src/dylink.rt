@@ -77,7 +77,7 @@ impl MemInfo {
         self.memory_size
     }
 
-    /// Returns the exponent of the memory alignment in bytes, a power of two.
+    /// Returns the exponent `n` of the memory alignment: the memory must be aligned to 2^n bytes. `n` may be any `u32`.
     pub fn memory_alignment(&self) -> u32
         ensures { result ≡ self.now.memory_alignment }
     {
@@ -91,7 +91,8 @@ impl MemInfo {
         self.table_size
     }
 
-    /// Returns the exponent of the table alignment in elements, a power of two.
+    /// Returns the exponent `n` of the table alignment: the table must be aligned to 2^n elements.
+    /// `n` may be any `u32`.
     pub fn table_alignment(&self) -> u32
         ensures { result ≡ self.now.table_alignment }
     {
@@ -134,7 +135,7 @@ impl<'a> ExportInfo<'a> {
         self.name
     }
 
-    /// Returns the flags of the export.
+    /// Returns the flags of the export, including bits that belong to no known flag.
     pub fn flags(&self) -> SymbolFlags
         ensures { bits_of result ≡ self.now.flags }
     {
@@ -190,7 +191,7 @@ impl<'a> ImportInfo<'a> {
         self.name
     }
 
-    /// Returns the flags of the import.
+    /// Returns the flags of the import, including bits that belong to no known flag.
     pub fn flags(&self) -> SymbolFlags
         ensures { bits_of result ≡ self.now.flags }
     {
@@ -321,6 +322,7 @@ impl<'a> Model for Dylink<'a> {
 
 impl<'a> Dylink<'a> {
     /// Returns the subsections in order.
+    /// They are those that are left, without those that `next` has returned.
     pub fn iter(&self) -> Dylink<'a>
         ensures { result ≡ self.now }
     {

@@ -57,6 +57,7 @@ impl<'a> DylinkNames<'a> {
     }
 
     /// Returns the names in order.
+    /// They are those that are left, without those that `next` has returned.
     pub fn iter(&self) -> DylinkNames<'a>
         ensures { result ≡ self.now }
     {

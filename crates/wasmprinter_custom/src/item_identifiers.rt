@@ -53,7 +53,7 @@ impl<'n> Identifiers<'n, '_> {
         }
     }
 
-    /// Returns the identifier of the module, which is never synthesized.
+    /// Returns the identifier of the module, or `None` if the module has no name. It is never synthesized.
     pub fn module(&self) -> Option<Identifier<'n>>
         ensures { option_map identifier_view result ≡ name_at self.now.names.now module_subsection 0 0 }
     {

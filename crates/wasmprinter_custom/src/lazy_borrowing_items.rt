@@ -93,7 +93,7 @@ impl<T: ReadFrom> ItemsIn<T> {
         })
     }
 
-    /// Returns the number of values.
+    /// Returns the number of values that are left, without those that `next` has returned.
     pub fn len(&self) -> u32
         ensures { result ≡ length self.now }
     {
@@ -101,6 +101,7 @@ impl<T: ReadFrom> ItemsIn<T> {
     }
 
     /// Returns the values in order.
+    /// They are those that are left, without those that `next` has returned.
     pub fn iter(&self) -> ItemsIn<T>
         ensures { result ≡ self.now }
     {

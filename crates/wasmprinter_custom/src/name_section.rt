@@ -132,12 +132,13 @@ fn read_subsections<'a>(
     Ok(())
 }
 
-/// Adds the names that the data of a name section gives, up to the first error in it.
+/// Adds the names that the data of a name section gives, up to the first error in it. That error is not reported.
 /// Several sections are added in order: on `Ok`, the builder holds its old entries and then those of this section.
 ///
 /// # Errors
 ///
-/// `Memory` if an allocation fails. The builder then holds some of the names. Without entries nothing is allocated.
+/// `Memory` if an allocation fails. The contract then says nothing of the builder. Without entries nothing is
+/// allocated. No other error is returned.
 pub fn read_names<'a>(
     alloc: Global,
     builder: &mut NamesBuilder<'a>,

@@ -169,7 +169,8 @@ impl<'a> NamesBuilder<'a> {
         Ok(())
     }
 
-    /// Returns the names that were added. If entries give several names to an item, the last one counts.
+    /// Returns the names that were added, each with the identifier for it. If entries give several names to an item,
+    /// the last one counts.
     ///
     /// # Errors
     ///

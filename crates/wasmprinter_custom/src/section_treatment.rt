@@ -59,8 +59,9 @@ fn dylink_treatment(section: Cursor) -> CustomTreatment
     }
 }
 
-/// Returns the treatment of a custom section: how the text represents it, or why it is refused. `place` is the place of
-/// its bytes after the name.
+/// Returns the treatment of a custom section: how the text represents it, or why it is refused. The name decides, and
+/// for `producers` and `dylink.0` also the bytes. `place` is the place of the bytes after the name. The place of their
+/// end must be below 2^64.
 pub fn custom_treatment<'a>(name: &str, place: u64, bytes: &'a [u8]) -> CustomTreatment<'a>
     requires { place + length bytes.now < 2 ^ 64 }
     ensures { treatment_view result ≡ custom_treatment_of (custom_of name.now (record { place = place; value = bytes.now })) }

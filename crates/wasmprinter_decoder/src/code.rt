@@ -180,6 +180,7 @@ impl<'a> Body<'a> {
     }
 
     /// Returns the place of the last `end`: a byte offset from the start of the module.
+    /// It is the place of the `end` byte itself, the last byte of the body, not the place after it.
     pub fn end(&self) -> u64
         ensures { result ≡ self.now.value.end }
     {

@@ -11,11 +11,16 @@ use wasmprinter_bytes::Error;
 use wasmprinter_custom::{Names, NamesBuilder, read_names};
 
 impl<'a> Module<'a> {
-    /// Returns the names in the module's name sections. If they give several names to an item, the last one counts.
+    /// Returns the names in the module's name sections, each with the identifier for it. If they give several names to
+    /// an item, the last one counts.
+    ///
+    /// A name section counts up to its first error, which is not reported. Names of items that do not exist are
+    /// returned too.
     ///
     /// # Errors
     ///
-    /// - `Memory` if an allocation failed. This can happen only if a name section gives a name.
+    /// - `Memory` if an allocation failed. This can happen only if a name section gives a name. No other error is
+    ///   returned.
     pub fn names(&self, alloc: Global) -> Result<Names<'a>, Error>
         ensures names { IfOk result (λ names. (s outer index : ℕ) → name_at names s outer index
             ≡ name_of (name_entries self.now.customs) s outer index) }

@@ -88,7 +88,7 @@ impl<'a> Custom<'a> {
         self.content.fork()
     }
 
-    /// Reports whether this is a name section.
+    /// Reports whether this is a name section: whether its name is `name`.
     pub fn is_name_section(&self) -> bool
         ensures { result ≡ bytes_eq self.now.value.name name_section }
     {

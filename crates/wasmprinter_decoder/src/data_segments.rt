@@ -113,7 +113,7 @@ impl<'a> Data<'a> {
         self.place
     }
 
-    /// Returns the mode.
+    /// Returns the mode. The memory of an active segment may not exist.
     pub fn mode(&self) -> &DataMode<'a>
         ensures { data_mode_view result.now ≡ self.now.value.mode }
     {

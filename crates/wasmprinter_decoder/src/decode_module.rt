@@ -31,7 +31,8 @@ use wasmprinter_bytes::{Error, Malformed};
 /// The preamble: the magic number and the version.
 const PREAMBLE: [u8; 8] = [0x00, 0x61, 0x73, 0x6d, 0x01, 0x00, 0x00, 0x00];
 
-/// Reports whether the bytes are marked as a component. [`decode`] then returns `Error::Component`.
+/// Reports whether the bytes are marked as a component: whether they begin with the magic number, any two bytes, and
+/// the bytes 01 00. [`decode`] then returns `Error::Component`.
 pub fn is_component(wasm: &[u8]) -> bool
     ensures { IsTrue result ↔ IsComponent wasm.now }
 {
@@ -239,12 +240,18 @@ fn read_module<'a>(alloc: Global, wasm: &'a [u8]) -> Result<Module<'a>, Error>
 ///
 /// - `Component` if the bytes are marked as a component. This error takes precedence over the others.
 /// - `Malformed` if the bytes do not encode a module.
-/// - `TooManyLocals` or `TooManyFunctions` if a limit of this printer is exceeded.
+/// - `TooManyLocals` if a function has too many locals. The place is that of the first such body.
+/// - `TooManyFunctions` if the module defines too many functions. The count is that of the functions.
 /// - `EmptyTableInit` if a table has an empty initialiser. The place is that of the first such table.
 /// - `Memory` if an allocation failed. This can happen only if the bytes contain a section of items with a count
 ///   above zero, or a custom section.
 ///
-/// If several of the other errors apply, any of them may be returned.
+/// If several of the other errors apply, any of them may be returned. If the bytes encode no module, the contract says
+/// of the three errors before `Memory` only that the bytes contain, somewhere, such a list of locals, the start of a
+/// function section with such a count, or such a table.
+///
+/// If the bytes encode a module within the limits, only `Memory` is possible (`within`). A module without items and
+/// custom sections is always decoded (`empty`).
 pub fn decode<'a>(alloc: Global, wasm: &'a [u8]) -> Result<Module<'a>, Error>
     ensures ok { IfOk result (λ m. Spells wasm.now m × IsWithinLimits m) }
     ensures refused { IfErr result (IsRefusal wasm.now) }

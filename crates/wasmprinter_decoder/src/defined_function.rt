@@ -20,7 +20,8 @@ impl<'a> Model for Function<'a> {
 }
 
 impl<'a> Function<'a> {
-    /// Returns the index of the function's type.
+    /// Returns the index of the function's type. The module is not validated: the index may refer to no type, or to a
+    /// type that is not a function type.
     pub fn type_index(&self) -> u32
         ensures { result ≡ self.now.type_index }
     {

@@ -197,14 +197,14 @@ impl<'a> Element<'a> {
         self.names_table
     }
 
-    /// Returns the mode.
+    /// Returns the mode. The table of an active segment may not exist.
     pub fn mode(&self) -> &ElementMode<'a>
         ensures { element_mode_view result.now ≡ self.now.value.element.mode }
     {
         &self.mode
     }
 
-    /// Returns the items.
+    /// Returns the items. Their indices may refer to nothing.
     pub fn items(&self) -> &ElementItems<'a>
         ensures { element_items_view result.now ≡ self.now.value.element.items }
     {

@@ -112,7 +112,7 @@ impl<'a> Export<'a> {
         self.kind
     }
 
-    /// Returns the index of the exported item in the index space of its kind.
+    /// Returns the index of the exported item in the index space of its kind. It may refer to no item.
     pub fn index(&self) -> u32
         ensures { result ≡ self.now.value.index }
     {

@@ -5,7 +5,8 @@ ghost use Rattle.wasmprinter_spec.specs.Customs.Hints.{hints_of};
 use crate::custom_section_positions::CustomEntry;
 use wasmprinter_custom::{Hints, is_hint_section};
 
-/// Returns the branch hints of a module's custom sections: those of the last hint section.
+/// Returns the branch hints of a module's custom sections: those of the last section with the name
+/// `metadata.code.branch_hint`. Returns no hints if there is no such section, or if the last one is malformed.
 pub fn hints_of<'a>(customs: &[CustomEntry<'a>]) -> Hints<'a>
     ensures { result ≡ hints_of customs.now }
 {

@@ -132,7 +132,8 @@ impl<'a> Import<'a> {
         self.ty.kind() == kind
     }
 
-    /// Returns the type of the import. If it is a memory, the exponent of its page size is below 64.
+    /// Returns the type of the import. If it is a memory, the exponent of its page size, if given, is below 64. The
+    /// type index of a function or a tag may refer to no type, or to a type that is not a function type.
     pub fn ty(&self) -> ExternType
         ensures is { extern_view result ≡ self.now.value.type }
         ensures page { HasPage result }

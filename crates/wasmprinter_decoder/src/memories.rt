@@ -114,7 +114,7 @@ impl Memory {
         self.place
     }
 
-    /// Returns the type. The exponent of its page size is below 64.
+    /// Returns the type. The exponent of its page size, if given, is below 64.
     pub fn ty(&self) -> MemoryType
         ensures is { memory_type_view result ≡ self.now.value }
         ensures page { IsPage result.page }

@@ -21,7 +21,8 @@ use crate::type_section::{TypeGroup, Types};
 use std::marker::Model;
 use wasmprinter_ops::composite_types::FuncType;
 
-/// A decoded module. Its names, expressions and data are slices of the bytes that were decoded.
+/// A decoded module. Its names, expressions and data are slices of the bytes that were decoded. It is not validated:
+/// an index in it may refer to nothing, or to an item of another kind than required.
 #[derive(Drop)]
 pub struct Module<'a> {
     pub(crate) types: Types<'a>,

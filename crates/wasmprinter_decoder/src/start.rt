@@ -35,7 +35,7 @@ impl Start {
         self.place
     }
 
-    /// Returns the index of the function.
+    /// Returns the index of the function. It may refer to no function.
     pub fn function(&self) -> u32
         ensures { result ≡ self.now.value }
     {

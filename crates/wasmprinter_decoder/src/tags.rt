@@ -58,7 +58,7 @@ impl Tag {
         self.place
     }
 
-    /// Returns the index of the tag's function type.
+    /// Returns the index of the tag's type. It may refer to no type, or to a type that is not a function type.
     pub fn type_index(&self) -> u32
         ensures { result ≡ self.now.value }
     {

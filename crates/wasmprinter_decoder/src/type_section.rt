@@ -74,7 +74,7 @@ impl<'a> TypeGroup<'a> {
     }
 
     /// Returns the place after the first two bytes of an explicit group. The lines of all its
-    /// types start with this place.
+    /// types start with this place. The group must be explicit.
     pub fn types_place(&self) -> u64
         requires { self.now.value.explicit ≡ true }
         ensures { result ≡ self.now.place + 2 }

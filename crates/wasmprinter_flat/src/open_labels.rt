@@ -184,7 +184,8 @@ impl<'n, 'a> OpenLabels<'n, 'a> {
     }
 
     /// Moves past an operator with the role. If it opens a block, that block is counted and becomes the innermost
-    /// one. If it ends a block, the innermost one is closed. The identifiers stay.
+    /// one. If it ends a block, the innermost one is closed. The identifiers stay. Fewer than 2^64 - 1 blocks must have
+    /// been opened.
     #[inline]
     pub fn advance(&mut self, role: Role)
         requires { self.old.count + 1 < 2 ^ 64 }

@@ -79,7 +79,7 @@ pub fn start_operator<O: Output>(
 }
 
 /// Writes the word of an operator and its immediates, with a space before each immediate. `labels` are those that are
-/// open before it, and have the identifiers of the module.
+/// open before it, and have the identifiers of the module. They must be fewer than 2^64 - 1.
 #[inline(never)]
 pub fn write_operator_word<O: Output, S: Signatures>(
     out: &mut O,

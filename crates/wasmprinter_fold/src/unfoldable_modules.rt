@@ -59,9 +59,12 @@ fn check_printed_hints(options: &PrintOptions, module: &Module<'_>) -> Result<()
 }
 
 /// Checks, before anything is printed, that everything that the options print of a module can be folded. On `Ok`, the
-/// printed lists of operators have none of the operators and hints below. Allocates no memory.
+/// printed lists of operators have none of the operators and hints below. The result does not depend on whether the
+/// options ask for folding. Allocates no memory.
 ///
 /// # Errors
+///
+/// No error other than these is returned:
 ///
 /// - `FoldLegacy` with the place of the first `try`, `catch`, `catch_all` or `delegate` in the lists of operators that
 ///   are printed, in the order of the bytes.

@@ -13,20 +13,21 @@ pub fn colors_keep_text()
 {}
 
 /// For each module that bytes encode: deleting the ANSI escape sequences from its text gives its text without colors.
-/// The text has colors only within folded operators.
+/// The text has colors only within folded operators. The indent consists of spaces and tabs.
 pub fn color_adds_sequences()
     ensures { ColorAddsSequences }
 {}
 
 /// For each module that bytes encode: deleting the ANSI escape sequences from the text of each call on the printer
-/// gives the calls of the layout without colors, one for one. So each sequence is within the text of one call.
+/// gives the calls of the layout without colors, one for one. So each sequence is within the text of one call. The
+/// indent consists of spaces and tabs.
 pub fn texts_contain_colors()
     ensures { TextsContainColors }
 {}
 
 /// For each module that bytes encode: deleting the ANSI escape sequences from the text that a color printer writes
 /// gives the text without colors. Such a printer writes the sequences of every style, not only those within folded
-/// operators.
+/// operators. The indent consists of spaces and tabs.
 pub fn colored_text_keeps()
     ensures { ColoredTextKeeps }
 {}
@@ -34,6 +35,10 @@ pub fn colored_text_keeps()
 /// After the escape sequences are deleted, the groups of folded text are the nodes of its tree. The text has colors
 /// within folded operators or not, and the sequences of every style or not.
 /// [`folded_groups_are_nodes`](crate::folded_groups_are_nodes) says the same of the text without colors.
+///
+/// The premises: the operators have a tree. The table lists each with immediates of its shape, whose numbers are in
+/// range. Type indices in function types are below 2^32. Names and identifiers are UTF-8, and no identifier is empty.
+/// The indent consists of spaces and tabs. Operators are folded by any numbers of operands and results.
 pub fn colored_groups_are_nodes()
     ensures { ColoredGroupsAreNodes }
 {}
@@ -56,9 +61,10 @@ pub fn folded_text_is_by_own_arities()
 /// This holds for any arities that opcodes are folded by, and for any types of the functions, tags, labels and
 /// structures that they name. The folded text has colors or not.
 ///
-/// The module is as in the reading law: every index that it uses is declared, and no table has an empty
-/// initialiser. The text is not a skeleton, its indent consists of spaces and tabs, and the printer claims no
-/// custom section. No `try`, `catch`, `catch_all` or `delegate` is printed, and no `dylink.0` section is refused.
+/// The module is as in the reading law ([`printed_text_reads_back`](crate::printed_text_reads_back)): some bytes encode
+/// it, every index that it uses is declared, and no table has an empty initialiser. The text is not a skeleton, its
+/// indent consists of spaces and tabs, and the printer claims no custom section. No `try`, `catch`, `catch_all` or
+/// `delegate` is printed, and no `dylink.0` section is refused.
 pub fn folded_text_reads_as_flat_by_any_arities()
     ensures { FoldedAnyhowReadsAsFlat }
 {}

@@ -29,15 +29,16 @@ pub fn nested_operators_have_trees()
     ensures only { TreesAreNested }
 {}
 
-/// Unfolding the nodes of a tree gives all operators of the tree in their flat order, whatever numbers of operands
-/// they were folded by. Of an `end`, the nodes record only that it is one.
+/// Unfolding the nodes of a tree whose operators have the roles that their positions require gives all operators of
+/// the tree in their flat order, whatever numbers of operands they were folded by. Of an `end`, the nodes record only
+/// that it is one. By [`trees_say_their_lists`], the tree of any list of operators has these roles.
 pub fn folding_loses_nothing()
     ensures { UnfoldingRule }
 {}
 
-/// A list of operators has a folded layout if it is well nested and no operator belongs to legacy exception handling
-/// (`folded`), and only then (`only`). This holds for any options, names, hints, and types of the items that the
-/// operators name.
+/// A list of operators has a folded layout if it is well nested and no operator is `try`, `catch`, `catch_all` or
+/// `delegate` (`folded`), and only then (`only`). This holds for any options, names, hints, and types of the items that
+/// the operators name.
 pub fn nested_operators_are_folded()
     ensures folded { (s : Setting) (signatures : Signatures) → FoldedRule s signatures }
     ensures only { (s : Setting) (signatures : Signatures) → FoldingRule s signatures }

@@ -17,8 +17,8 @@ pub fn lines_join_to_the_text()
     ensures { LinesJoin }
 {}
 
-/// Each `Line` call of a layout, except the first call, directly follows a `Newline` call. This holds for any
-/// options, answers and module. So no `Line` call directly follows another.
+/// Each `Line` call of a layout directly follows a `Newline` call, unless it is the first call of the layout. This
+/// holds for any options, answers and module. So no `Line` call directly follows another.
 pub fn lines_begin_after_feeds()
     ensures { LinesBeginAfterFeeds }
 {}
@@ -29,9 +29,9 @@ pub fn bodies_lie_apart()
     ensures { BodiesLieApart }
 {}
 
-/// If bodies are printed flat and no `dylink.0` section is refused, the header of each function, its locals, if it has
-/// any, and each of its operators have one line each, in this order. No other line begins with the same place. Only
-/// lines of branch hints come between these lines.
+/// If bytes encode a module, its bodies are printed flat and no `dylink.0` section is refused, the header of each
+/// function, its locals, if it has any, and each of its operators have one line each, in this order. No other line
+/// begins with the same place. Only lines of branch hints come between these lines.
 pub fn functions_have_lines()
     ensures { FunctionsHaveLines }
 {}
@@ -42,9 +42,9 @@ pub fn finds_places()
     ensures { FindsPlace }
 {}
 
-/// If the bodies of a module are printed flat and no `dylink.0` section is refused, the line of each operator is
-/// found in the module's lines. It is the only line with the operator's place. For an operator that does not exist,
-/// no line is found.
+/// If bytes encode a module, its bodies are printed flat and no `dylink.0` section is refused, the line of each
+/// operator is found in the module's lines. It is the only line with the operator's place. For an operator that does
+/// not exist, no line is found.
 pub fn finds_lines()
     ensures { FindsLine }
 {}

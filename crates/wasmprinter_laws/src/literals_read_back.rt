@@ -19,8 +19,9 @@ pub fn float_text_reads()
     ensures { FloatTextReads }
 {}
 
-/// A hexadecimal number reads as the bits of the finite float that is equal to it. If no finite float is, it does
-/// not read.
+/// A hexadecimal number without a sign reads as the bits of the finite float that is equal to it. If no finite float
+/// is, it does not read. The law is of the reader's step from the value of the number to the bits. It holds for floats
+/// with 2 to 16 bits of exponent and 1 to 64 bits of fraction.
 pub fn floats_are_exact()
     ensures { FloatsAreExact }
 {}

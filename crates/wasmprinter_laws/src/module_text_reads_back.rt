@@ -21,17 +21,19 @@ pub fn reader_takes_nested_operators()
 /// The reading law: the text that is laid out for a module that some bytes encode, flat or folded, reads as exactly
 /// that module, including the custom sections that are printed as raw bytes.
 ///
-/// The premises: every index that the module uses is declared, as in each valid module. The text is not a skeleton and
-/// has no colors. Its indent consists of spaces and tabs. The printer claims no custom section. No table has an
-/// empty initialiser: its text would equal that of a table without one. If operators are folded, all can be. No
+/// The premises: every index that the module uses is declared, as in each valid module: it refers to an item, and to a
+/// function type or a field of a structure type where one is required. Labels may refer to nothing. The text is not a
+/// skeleton and has no colors. Its indent consists of spaces and tabs. The printer claims no custom section. No table
+/// has an empty initialiser: its text would equal that of a table without one. If operators are folded, all can be. No
 /// `dylink.0` section is refused.
 pub fn printed_text_reads_back()
     ensures { ReadsBack }
 {}
 
-/// Two texts of one module have the same tokens if their options differ only in places at the start of lines and in
-/// the indent. So places and the indent change only white space and comments. Both texts have no colors, and both
-/// indents consist of spaces and tabs. Operators are folded in both texts or in none.
+/// Two texts of one module that some bytes encode have the same tokens if their options differ only in places at the
+/// start of lines and in the indent. So places and the indent change only white space and comments. Both texts have no
+/// colors, and both indents consist of spaces and tabs. Operators are folded in both texts or in none. The printer
+/// claims the same custom sections.
 pub fn places_and_indent_keep_tokens()
     ensures { TokensStay }
 {}
