@@ -71,8 +71,8 @@ impl Model for Choice {
 ///
 /// The arguments without the first are the words. With these words the statuses and writes are those of [`run`]. If
 /// `args` is an error, or an allocation fails while the words are read, the status is 1: one line that reports this
-/// error is written to `err`, and nothing to `out`. A failed write to `err` does not change the status. The iterator
-/// must be finite.
+/// error is written to `err`, and nothing to `out`. A failed write to `err` does not change the status. If `args` is an
+/// iterator, it must be finite, and a call of `next` on it must be allowed.
 pub fn launch<S, R, I, O, E>(
     source: &S,
     renderer: &R,
@@ -138,7 +138,7 @@ where
 /// - The error of `args`, if it is one.
 /// - An error of the kind `OutOfMemory`, if an allocation fails.
 ///
-/// No other error is returned. The iterator must be finite.
+/// No other error is returned. If `args` is an iterator, it must be finite, and a call of `next` on it must be allowed.
 pub fn words_of<I: Iterator<Item = String>>(
     alloc: Global,
     args: io::Result<I>,

@@ -49,10 +49,10 @@ pub fn hints_stay()
 /// them, reads as exactly these operators. The hints are not part of what is read.
 ///
 /// The premises: the operators are in the table, with the immediates that it lists and with numbers in range. There are
-/// at most 2^64 of them, and every index that they use is declared, except that of a label. The reader has the types
-/// and the identifiers of the layout, and each index space has at most 2^64 items. Each identifier and each name is
-/// UTF-8, and no identifier is empty. Identifiers are distinct as in `identifiers_are_apart`. The indent consists of
-/// spaces and tabs.
+/// at most 2^64 of them. Every index that they or signatures use is declared; a label may have any index. The reader
+/// has the types and the identifiers of the layout. An index space has at most 2^64 items, and a type at most 2^64
+/// fields. Each identifier and each name is UTF-8, and no identifier is empty. Identifiers are distinct as in
+/// `identifiers_are_apart`. The indent consists of spaces and tabs.
 pub fn printed_operators_read_back()
     ensures { OperatorsReadBack }
 {}

@@ -12,8 +12,8 @@ pub fn name_sections_give_one_list()
     ensures { NamesAreOneList }
 {}
 
-/// The list of entries from which the items of a module have their names is the one that the grammar of name sections
-/// gives for the same data.
+/// The entries that give a module's items their names, for the data of one name section, are those that the grammar of
+/// name sections gives for this data. The data may be malformed, as in [`name_sections_give_one_list`].
 pub fn entries_are_given()
     ensures { EntriesAreGiven }
 {}
@@ -31,16 +31,16 @@ pub fn name_sections_give_entries()
 {}
 
 /// If the entries of name sections have indices of 32 bits and names in UTF-8, no identifier means two items of one
-/// index space, two locals of one function or two fields of one type. This holds for items with indices below 2^64. Two
-/// labels of a function, of which one block may be within the other, have the same identifier only if both were given
-/// the same name. This holds below a nesting depth of 2^64, and all of it whether identifiers are synthesized for items
-/// without names or not.
+/// index space, two locals of one function or two fields of one type. If two labels of a function have the same
+/// identifier, and one block may be within the other, both were given the same name. This holds for indices and nesting
+/// depths below 2^64, and whether identifiers are synthesized for items without names or not.
 pub fn identifiers_are_apart()
     ensures { IdentifiersAreApart }
 {}
 
-/// If the entries of name sections have indices of 32 bits and names in UTF-8, each identifier that items get is UTF-8
-/// and not empty, and each name is UTF-8.
+/// If the entries of name sections have indices of 32 bits and names in UTF-8, each identifier that the module, its
+/// items and labels get is UTF-8 and not empty, and each name is UTF-8. This holds whether identifiers are synthesized
+/// for items without names or not.
 pub fn identifiers_are_named()
     ensures { IdentifiersAreNamed }
 {}

@@ -101,7 +101,7 @@ impl Recorder {
         !self.lost
     }
 
-    /// Returns the number of failed calls.
+    /// Returns the number of failed calls, at most 2^64 - 1: at this number the count stays.
     pub fn faults(&self) -> u64
         ensures { result ≡ self.now }
     {
