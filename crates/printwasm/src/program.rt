@@ -70,8 +70,9 @@ impl Model for Choice {
 /// Runs the program with all its arguments, of which the first is its own name, and returns the exit status.
 ///
 /// The arguments without the first are the words. With these words the statuses and writes are those of [`run`]. If
-/// the words can't be read, or an allocation fails while they are read, the status is 1: one line that reports this
-/// error is written to `err`, and nothing to `out`. A failed write to `err` does not change the status.
+/// `args` is an error, or an allocation fails while the words are read, the status is 1: one line that reports this
+/// error is written to `err`, and nothing to `out`. A failed write to `err` does not change the status. If `args` is an
+/// iterator, it must be finite, and a call of `next` on it must be allowed.
 pub fn launch<S, R, I, O, E>(
     source: &S,
     renderer: &R,
@@ -99,7 +100,7 @@ where
 }
 
 /// Runs the program with its words, or with the error for which they can't be read, and returns the exit status.
-/// `words` does not contain the program's name: it is the result of [`words_of`].
+/// `words` does not contain the program's name, as in the result of [`words_of`].
 ///
 /// With words, the statuses and writes are those of [`run`]. With an error, the status is 1: one line that reports
 /// this error is written to `err`, and nothing to `out`. A failed write to `err` does not change the status.
@@ -136,6 +137,8 @@ where
 ///
 /// - The error of `args`, if it is one.
 /// - An error of the kind `OutOfMemory`, if an allocation fails.
+///
+/// No other error is returned. If `args` is an iterator, it must be finite, and a call of `next` on it must be allowed.
 pub fn words_of<I: Iterator<Item = String>>(
     alloc: Global,
     args: io::Result<I>,
@@ -151,13 +154,16 @@ pub fn words_of<I: Iterator<Item = String>>(
 /// Prints the module in the file that the arguments name, and returns the exit status. `words` does not contain the
 /// program's name. The statuses are:
 ///
-/// - 0: the text of the file's module was written to `out` in one write, which succeeded. `err` is unchanged.
+/// - 0: the text of the file's module, with the options among the words, was written to `out` in one write, which
+///   succeeded. `err` is unchanged.
 /// - 1: the file can't be read or its module can't be printed, and `out` is unchanged; or the one write of the text
 ///   to `out` failed. A line that reports the error was written to `err`.
 /// - 2: the words do not name exactly one file, or one of them is an unknown option. The usage line was written to
-///   `err`. `out` is unchanged.
+///   `err`. `out` is unchanged. For all other words the status is 0 or 1.
 ///
-/// Each line is written to `err` in one write; if that write fails, the status stays the same.
+/// Each line is written to `err` in one write; if that write fails, the status stays the same. The reported error is
+/// `Unreadable` after a failed read and `Printer` with its error after a failed write. Any other one is a refusal of
+/// the bytes that reading the file returned.
 pub fn run<S: Source, R: Render<Error>, O: Sink, E: Sink>(
     source: &S,
     renderer: &R,

@@ -48,31 +48,41 @@ pub fn hints_stay()
 {}
 
 /// The text that is laid out for nested operators, over several lines or in one, with or without branch hints before
-/// them, reads as exactly these operators. Items and labels may have any names, if no identifier means two of them.
-/// Every index that the operators use is declared, and the indent consists of spaces and tabs.
+/// them, reads as exactly these operators. The hints are not part of what is read.
+///
+/// The premises: the operators are in the table, with the immediates that it lists and with numbers in range. There are
+/// at most 2^64 of them. Every index that they or signatures use is declared; a label may have any index. The reader
+/// has the types and the identifiers of the layout. An index space has at most 2^64 items, and a type at most 2^64
+/// fields. Each identifier and each name is UTF-8, and no identifier is empty. Identifiers are distinct as in
+/// `identifiers_are_apart`. The indent consists of spaces and tabs.
 pub fn printed_operators_read_back()
     ensures { OperatorsReadBack }
 {}
 
 /// The text that is laid out for nested operators reads as exactly these operators also if items and labels have the
-/// names that name sections give, and the others synthesized identifiers or none. The other conditions are those of
-/// [`printed_operators_read_back`].
+/// names that name sections give, and the others synthesized identifiers or none. The entries of the name sections
+/// have indices of 32 bits and names in UTF-8; this replaces the premises that identifiers are distinct, UTF-8 and not
+/// empty. The other premises are those of [`printed_operators_read_back`].
 pub fn named_operators_read_back()
     ensures { NamedOperatorsReadBack }
 {}
 
 /// The text that is laid out for folded operators, over several lines or in one, with or without branch hints before
-/// them, reads as exactly these operators, for any numbers of operands and results by which they are folded. Names,
-/// indices and the indent are as in [`printed_operators_read_back`]. No operator is one of legacy exception
-/// handling.
+/// them, reads as exactly these operators, for any numbers of operands and results by which they are folded. No
+/// operator is one of legacy exception handling: `try`, `catch`, `catch_all` or `delegate`. The text has no colors. The
+/// other premises are those of [`printed_operators_read_back`].
 pub fn folded_operators_read_back()
     ensures { FoldedOperatorsReadBack }
 {}
 
 /// The groups of folded text are the nodes of its tree: one group for each node, in the same order and at the same
 /// depth. The items of a group before its inner nodes are those that the text of its operator reads as, or the word
-/// `then` or `else`. This holds for any numbers of operands and results by which operators are folded. The text has no
-/// colors, and its indent consists of spaces and tabs.
+/// `then` or `else`. This holds for any numbers of operands and results by which operators are folded.
+///
+/// The premises: the operators are well nested and in the table, with the immediates that it lists. Their numbers and
+/// the type indices in signatures are in range. None is one of legacy exception handling. Each identifier and each name
+/// is UTF-8, and no identifier is empty. The text has no colors, and its indent consists of spaces and tabs. Indices
+/// need not be declared, nor identifiers distinct.
 pub fn folded_groups_are_nodes()
     ensures { FoldedGroupsAreNodes }
 {}
@@ -85,8 +95,9 @@ pub fn folded_text_reads_as_flat()
 
 /// The groups of the text of a module whose operators are folded are the nodes of its trees, field by field: a
 /// function has those of its body, a global and a table those of their initialisers, and a segment those of its
-/// offset and of its items. All operators can be folded. The text is not a skeleton and has no colors. Its indent
-/// consists of spaces and tabs. No `dylink.0` section is refused.
+/// offset and of its items. The items of each group are those of [`folded_groups_are_nodes`]. All operators can be
+/// folded. The text is not a skeleton and has no colors. Its indent consists of spaces and tabs. No `dylink.0` section
+/// is refused. The printer may claim sections, and indices need not be declared.
 pub fn folded_modules_have_trees()
     ensures { FoldedModulesHaveTrees }
 {}

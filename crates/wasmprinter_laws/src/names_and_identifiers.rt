@@ -6,19 +6,21 @@ ghost use Rattle.wasmprinter_laws.specs.NameLaws.{IdentifiersAreApart, Identifie
 ghost use Rattle.wasmprinter_laws.specs.LabelLaws.{LabelsMeanTheirBlocks};
 
 /// Any bytes, taken as the data of a name section, give exactly one list of entries (appendix "Name Section" of the
-/// standard). An entry gives a name to one item.
+/// standard). An entry gives a name to one item. Malformed data gives the entries before its first error: reading ends
+/// there, also for all later subsections. A subsection with an unknown id gives no entries.
 pub fn name_sections_give_one_list()
     ensures { NamesAreOneList }
 {}
 
-/// The list of entries from which the items of a module have their names is the one that the grammar of name sections
-/// gives for the same data.
+/// The entries that give a module's items their names, for the data of one name section, are those that the grammar of
+/// name sections gives for this data. The data may be malformed, as in [`name_sections_give_one_list`].
 pub fn entries_are_given()
     ensures { EntriesAreGiven }
 {}
 
-/// The entries that a name map gives are encoded one after the other from its start. Either their number is the map's
-/// count, or the bytes after them encode no further entry, and reading ends there with an error.
+/// The entries that a name map gives are encoded one after the other, directly after the map's count. Either their
+/// number is that count, or they are fewer, the bytes after them encode no further entry, and reading ends there with
+/// an error.
 pub fn name_maps_end_at_the_first_error()
     ensures { NameMapsEndAtFirstError }
 {}
@@ -29,19 +31,23 @@ pub fn name_sections_give_entries()
 {}
 
 /// If the entries of name sections have indices of 32 bits and names in UTF-8, no identifier means two items of one
-/// index space, whether identifiers are synthesized for items without names or not.
+/// index space, two locals of one function or two fields of one type. If two labels of a function have the same
+/// identifier, and one block may be within the other, both were given the same name. This holds for indices and nesting
+/// depths below 2^64, and whether identifiers are synthesized for items without names or not.
 pub fn identifiers_are_apart()
     ensures { IdentifiersAreApart }
 {}
 
-/// If the entries of name sections have indices of 32 bits and names in UTF-8, each identifier that items get is UTF-8
-/// and not empty, and each name is UTF-8.
+/// If the entries of name sections have indices of 32 bits and names in UTF-8, each identifier that the module, its
+/// items and labels get is UTF-8 and not empty, and each name is UTF-8. This holds whether identifiers are synthesized
+/// for items without names or not.
 pub fn identifiers_are_named()
     ensures { IdentifiersAreNamed }
 {}
 
-/// For each module that bytes encode, the name sections give identifiers that are UTF-8 and not empty. No identifier
-/// means two items of one space, of one function or of one type.
+/// For each module that bytes encode, the name sections give names that are UTF-8, and identifiers that are UTF-8 and
+/// not empty. Identifiers of items and labels are distinct as in [`identifiers_are_apart`]: labels may share one. This
+/// holds whether identifiers are synthesized for items without names or not.
 pub fn modules_have_identifiers()
     ensures { ModulesHaveIdentifiers }
 {}
@@ -53,8 +59,9 @@ pub fn identifiers_resolve()
 {}
 
 /// A label whose block has an identifier is printed by that identifier, and the reader resolves it to that block. If a
-/// block further in was given the same name, the label is printed by its number instead. The condition: if two blocks
-/// have the same identifier, and one may be within the other, both were given the same name.
+/// block further in was given the same name, the label is printed by its number instead. The conditions: if two blocks
+/// have the same identifier, and one may be within the other, both were given the same name; and at most 2^64 blocks
+/// are open.
 pub fn labels_mean_their_blocks()
     ensures { LabelsMeanTheirBlocks }
 {}

@@ -54,15 +54,19 @@ fn print_by<'s, 'a, P: Print, K: LayoutOptions>(
 /// Prints a module. `labels` also holds the identifiers of the module. If operators are folded, a list with a legacy
 /// operator is left out, and so is a hint that can't be folded; `check_folding` refuses both.
 ///
-/// On `Ok`, the calls of the module's layout were made. `answers` in the contract are the printer's answers whether it
-/// claims each custom section. After an error, the calls that were made are a prefix of the layout, as follows.
+/// On `Ok`, the calls of the module's layout were made, up to how text is split into calls, and no `dylink.0` section
+/// is refused. `answers` in the contract are the printer's answers whether it claims each custom section. The text of
+/// folded operators has ANSI escape sequences if the printer can write colors as text (`supports_async_color`). After
+/// an error, the calls that were made are a prefix of the layout in the same way, as follows.
 ///
 /// # Errors
 ///
-/// - `DylinkSubsection`: a custom section `dylink.0` that the printer does not claim has an unknown subsection.
-///   All text before that section was written.
-/// - `Printer`: a call on the printer failed. It holds the error of that call.
-/// - `Memory`, only if operators are folded: an allocation failed. A prefix of the text was written.
+/// - `DylinkSubsection`: a custom section `dylink.0` that the printer does not claim has an unknown subsection. It
+///   holds the id of the first one. All calls before that section were made, and the question whether it is claimed.
+/// - `Printer`: a call on the printer failed. It holds the error of that call, which was the last call.
+/// - `Memory`, only if operators are folded: an allocation failed. All calls that were made succeeded.
+///
+/// No other error is returned.
 pub fn print_module<'s, 'a, P: Print>(
     alloc: Global,
     p: &mut P,

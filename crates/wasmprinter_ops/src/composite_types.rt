@@ -131,7 +131,8 @@ impl StorageType {
 ///
 /// # Errors
 ///
-/// `Malformed` if the byte is neither 00 nor 01, with its place.
+/// `Malformed` if no byte is left, or if the byte is neither 00 nor 01, with the place of the byte. The contract only
+/// says that this place is not before the cursor's and not after the end of the bytes; tests check it.
 pub fn read_mutability(cursor: &mut Cursor) -> Result<bool, Malformed>
     ensures { Decodes (λ b. b) mutability.parse cursor.old result cursor.new }
 {
@@ -340,7 +341,8 @@ impl<'a> SubTypes<'a> {
     /// # Errors
     ///
     /// `Malformed` if the bytes do not encode a subtype, with a place as
-    /// [`Error::Malformed`](wasmprinter_bytes::Error::Malformed) describes it.
+    /// [`Error::Malformed`](wasmprinter_bytes::Error::Malformed) describes it. The contract only says that this place
+    /// is not before the cursor's and not after the end of the bytes; tests check it.
     pub fn read_one(cursor: &mut Cursor<'a>) -> Result<Self, Malformed>
         ensures { Decodes (λ t. t) (items_at subtype.parse 1) cursor.old result cursor.new }
     {
@@ -353,7 +355,8 @@ impl<'a> SubTypes<'a> {
     /// # Errors
     ///
     /// `Malformed` if the bytes do not encode the count or one of the types, with a place
-    /// as [`Error::Malformed`](wasmprinter_bytes::Error::Malformed) describes it.
+    /// as [`Error::Malformed`](wasmprinter_bytes::Error::Malformed) describes it. The contract only says that this
+    /// place is not before the cursor's and not after the end of the bytes; tests check it.
     pub fn read(cursor: &mut Cursor<'a>) -> Result<Self, Malformed>
         ensures { Decodes (λ t. t) (vec subtype).parse cursor.old result cursor.new }
     {

@@ -101,8 +101,11 @@ impl<'a> Expression<'a> {
     /// # Errors
     ///
     /// - `Malformed` if the bytes do not encode well-nested operators with their `end`, with a place as
-    ///   [`Error::Malformed`](wasmprinter_bytes::Error::Malformed) describes it.
+    ///   [`Error::Malformed`](wasmprinter_bytes::Error::Malformed) describes it. The contract only says that this place
+    ///   is not before the cursor's and not after the end of the bytes; tests check it.
     /// - `Memory` if an allocation fails. Nothing is allocated before an operator opens a block.
+    ///
+    /// No other error is returned.
     pub fn read(alloc: Global, cursor: &mut Cursor<'a>) -> Result<Self, Error>
         ensures { Takes (λ e. e) (reader expression.parse ReachesBlock) cursor.old result cursor.new }
     {
@@ -142,7 +145,8 @@ impl<'a> Expression<'a> {
         self.operators.is_empty()
     }
 
-    /// Returns the place of the last `end`: a byte offset from the start of the module.
+    /// Returns the place of the byte of the last `end` itself, not that of the byte after it: a byte offset from the
+    /// start of the module.
     pub fn end(&self) -> u64
         ensures { result ≡ self.now.end }
     {

@@ -334,8 +334,9 @@ impl<'a> Operator<'a> {
 ///
 /// # Errors
 ///
-/// `Malformed`, with the place of the opcode if the table does not list it, and otherwise with a place as
-/// [`Error::Malformed`](wasmprinter_bytes::Error::Malformed) describes it.
+/// `Malformed` if the bytes do not encode an operator, with the place of the opcode if the table does not list it, and
+/// otherwise with a place as [`Error::Malformed`](wasmprinter_bytes::Error::Malformed) describes it. The contract only
+/// says that this place is not before the cursor's and not after the end of the bytes; tests check it.
 pub fn read_operator<'a>(cursor: &mut Cursor<'a>) -> Result<Operator<'a>, Malformed>
     ensures { Decodes (λ o. o) operator.parse cursor.old result cursor.new }
 {

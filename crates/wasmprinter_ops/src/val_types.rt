@@ -146,7 +146,8 @@ impl HeapType {
 /// # Errors
 ///
 /// `Malformed` if the bytes do not encode one, with a place as
-/// [`Error::Malformed`](wasmprinter_bytes::Error::Malformed) describes it.
+/// [`Error::Malformed`](wasmprinter_bytes::Error::Malformed) describes it. The contract only says that this place is
+/// not before the cursor's and not after the end of the bytes; tests check it.
 pub fn read_type_index(cursor: &mut Cursor) -> Result<u32, Malformed>
     ensures { Decodes (λ n. n) signed_index.parse cursor.old result cursor.new }
 {
@@ -163,7 +164,8 @@ pub fn read_type_index(cursor: &mut Cursor) -> Result<u32, Malformed>
 /// # Errors
 ///
 /// `Malformed` if the bytes do not encode a heap type, with a place as
-/// [`Error::Malformed`](wasmprinter_bytes::Error::Malformed) describes it.
+/// [`Error::Malformed`](wasmprinter_bytes::Error::Malformed) describes it. The contract only says that this place is
+/// not before the cursor's and not after the end of the bytes; tests check it.
 pub fn read_heap_type(cursor: &mut Cursor) -> Result<HeapType, Malformed>
     ensures { Decodes heap_view heap_type.parse cursor.old result cursor.new }
 {
@@ -205,7 +207,8 @@ impl RefType {
 /// # Errors
 ///
 /// `Malformed` if the bytes do not encode a reference type, with a place as
-/// [`Error::Malformed`](wasmprinter_bytes::Error::Malformed) describes it.
+/// [`Error::Malformed`](wasmprinter_bytes::Error::Malformed) describes it. The contract only says that this place is
+/// not before the cursor's and not after the end of the bytes; tests check it.
 pub fn read_ref_type(cursor: &mut Cursor) -> Result<RefType, Malformed>
     ensures { Decodes ref_view reference_type.parse cursor.old result cursor.new }
 {
@@ -256,7 +259,8 @@ pub fn begins_type(byte: u8) -> bool
 /// # Errors
 ///
 /// `Malformed` if the bytes do not encode a value type, with a place as
-/// [`Error::Malformed`](wasmprinter_bytes::Error::Malformed) describes it.
+/// [`Error::Malformed`](wasmprinter_bytes::Error::Malformed) describes it. The contract only says that this place is
+/// not before the cursor's and not after the end of the bytes; tests check it.
 pub fn read_type(cursor: &mut Cursor) -> Result<ValType, Malformed>
     ensures { Decodes val_type_view val_type.parse cursor.old result cursor.new }
 {
@@ -278,7 +282,8 @@ impl Decode for ValType {
 /// # Errors
 ///
 /// `Malformed` if the bytes do not encode the count or one of the types, with a place
-/// as [`Error::Malformed`](wasmprinter_bytes::Error::Malformed) describes it.
+/// as [`Error::Malformed`](wasmprinter_bytes::Error::Malformed) describes it. The contract only says that this place is
+/// not before the cursor's and not after the end of the bytes; tests check it.
 pub fn read_types<'a>(cursor: &mut Cursor<'a>) -> Result<ValTypes<'a>, Malformed>
     ensures { Decodes val_types_view (vec val_type).parse cursor.old result cursor.new }
 {

@@ -65,7 +65,8 @@ impl Recorder {
         }
     }
 
-    /// Returns a recorder that fails the call with this number. Only calls that can fail are counted, from 1.
+    /// Returns a recorder that fails the call with this number, with an error of this kind. Only calls that can fail
+    /// are counted, from 1; the number 0 fails none.
     /// Contracts see a recorder as the number of calls that have failed, which is 0.
     pub fn with_refusal(alloc: Global, call: u32, kind: ErrorKind) -> Recorder
         ensures { result ≡ 0 }
@@ -85,22 +86,22 @@ impl Recorder {
         recorder
     }
 
-    /// Returns the recorded calls.
+    /// Returns the recorded calls, in the form that [`Recorder`] describes. No contract says which they are.
     pub fn calls(&self) -> &str {
         self.calls.as_str()
     }
 
-    /// Returns the number of calls so far that can fail.
+    /// Returns the number of calls so far that can fail. No contract says how many they are.
     pub fn call_count(&self) -> u32 {
         self.made
     }
 
-    /// Reports whether every call was recorded.
+    /// Reports whether every call was recorded: no allocation failed. No contract says so.
     pub fn is_complete(&self) -> bool {
         !self.lost
     }
 
-    /// Returns the number of failed calls.
+    /// Returns the number of failed calls, at most 2^64 - 1: at this number the count stays.
     pub fn faults(&self) -> u64
         ensures { result ≡ self.now }
     {

@@ -15,7 +15,7 @@ pub enum Different {
 ///
 /// # Errors
 ///
-/// [`Different`] if the texts differ.
+/// [`Different`] if the texts differ. The contract does not say which line it holds; tests check that.
 pub fn expect_text(text: &str, typed: &str) -> Result<(), Different>
 where
     ensures same { IfOk result (λ _. text.now ≡ typed.now) }

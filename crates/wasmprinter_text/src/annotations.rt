@@ -7,7 +7,7 @@ use crate::comments::write_between;
 use crate::parens_and_words::{write_in_style, write_two_in_style};
 use wasmprinter_print::{Output, Style};
 
-/// Opens an annotation: a parenthesis, the sign `@` and a name.
+/// Opens an annotation: writes a parenthesis without a style, then the sign `@` and the name in the style of keywords.
 pub fn open_annotation<O: Output>(out: &mut O, name: &str)
     ensures { O.wrote out.old out.new (OpenAnnotation name.now ∷ []) }
 {
@@ -15,7 +15,7 @@ pub fn open_annotation<O: Output>(out: &mut O, name: &str)
     write_two_in_style(out, Style::Keyword, "@", name);
 }
 
-/// Opens an annotation, and writes a space after its name.
+/// Opens an annotation as [`open_annotation`] does, and writes a space after its name in the same style.
 pub fn open_annotation_space<O: Output>(out: &mut O, name: &str)
     ensures { O.wrote out.old out.new (OpenAnnotationSpace name.now ∷ []) }
 {
@@ -25,7 +25,8 @@ pub fn open_annotation_space<O: Output>(out: &mut O, name: &str)
     out.reset_color();
 }
 
-/// Opens a group of an annotation: a parenthesis and a run of identifier characters, which need not be a keyword.
+/// Opens a group of an annotation: writes a parenthesis without a style, then `word` in the style of keywords. The word
+/// need not be a keyword; its characters are not checked.
 pub fn open_annotation_word<O: Output>(out: &mut O, word: &str)
     ensures { O.wrote out.old out.new (OpenAnnotationWord word.now ∷ []) }
 {
@@ -33,7 +34,8 @@ pub fn open_annotation_word<O: Output>(out: &mut O, word: &str)
     write_in_style(out, Style::Keyword, word);
 }
 
-/// Writes a comment to the end of the line, without a style. Its text is `before`, `s` and `after`.
+/// Writes a comment to the end of the line, without a style: `;;`, a space, `before`, `s` and `after`. It does not end
+/// the line.
 pub fn write_plain_line_comment<O: Output>(out: &mut O, before: &str, s: &str, after: &str)
     ensures { O.wrote out.old out.new (PlainLineComment (before.now ++ (s.now ++ after.now)) ∷ []) }
 {

@@ -15,14 +15,14 @@ pub(crate) fn write_between<O: Output>(out: &mut O, before: &str, s: &str, after
     out.write_str(after);
 }
 
-/// Writes a space and a comment without a style.
+/// Writes a space and a comment `(;content;)` without a style.
 pub fn write_unstyled_comment<O: Output>(out: &mut O, content: &str)
     ensures { O.wrote out.old out.new (BlockComment false content.now ∷ []) }
 {
     write_between(out, " (;", content, ";)");
 }
 
-/// Writes the number of a declaration as a comment without a style.
+/// Writes the number of a declaration in decimal as a comment `(;n;)`, without a style of its own.
 pub fn write_index_comment<O: Output>(out: &mut O, n: u64)
     ensures { O.wrote out.old out.new (IndexComment n ∷ []) }
 {
@@ -38,14 +38,15 @@ fn write_number_comment<O: Output>(out: &mut O, before: &str, n: u64, after: &st
     out.reset_color();
 }
 
-/// Writes a space and a comment with the number of a block.
+/// Writes a space and a comment `(;@n;)` in the style of comments, where `n` is the number of a block in decimal.
 pub fn write_depth_comment<O: Output>(out: &mut O, block: u64)
     ensures { O.wrote out.old out.new (BlockComment true (codes "@" ++ decimal block) ∷ []) }
 {
     write_number_comment(out, " (;@", block, ";)");
 }
 
-/// Writes a space and a comment with the label of a block.
+/// Writes a space and a comment `(; label = @n ;)` in the style of comments, where `n` is the number of a block in
+/// decimal.
 pub fn write_label_block_comment<O: Output>(out: &mut O, block: u64)
     ensures { O.wrote out.old out.new
         (BlockComment true (codes " label = @" ++ (decimal block ++ codes " ")) ∷ []) }
@@ -53,7 +54,8 @@ pub fn write_label_block_comment<O: Output>(out: &mut O, block: u64)
     write_number_comment(out, " (; label = @", block, " ;)");
 }
 
-/// Writes a comment to the end of the line with the label of a block.
+/// Writes a comment `;; label = @n` in the style of comments, where `n` is the number of a block in decimal. It does
+/// not end the line.
 pub fn write_label_line_comment<O: Output>(out: &mut O, block: u64)
     ensures { O.wrote out.old out.new (LineComment (codes "label = @" ++ decimal block) ∷ []) }
 {

@@ -59,7 +59,8 @@ fn write_name<O: Output>(out: &mut O, name: Name<'_>)
     write_given_name(out, name);
 }
 
-/// Writes an identifier, then the given name as an annotation if it differs.
+/// Writes an identifier without a style of its own. If a name was given that differs from it, a space and the
+/// annotation `(@name "..")` with that name follow.
 #[tactic(auto, unfolding(wasmprinter_spec::specs::Layout::Identifiers::id_and_name_pieces))]
 pub fn write_id_and_name<O: Output>(out: &mut O, identifier: Identifier<'_>)
     ensures { O.wrote out.old out.new (id_and_name_pieces (identifier_view identifier.entry)) }
@@ -118,7 +119,8 @@ fn write_declaration<O: Output>(out: &mut O, identifier: Option<Identifier<'_>>,
     end_style(out);
 }
 
-/// Writes an index: the identifier of the item, or its number for `None`.
+/// Writes an index in the style of names: the identifier of the item, or its number in decimal for `None`. `number` is
+/// not used if there is an identifier.
 #[tactic(auto, unfolding(wasmprinter_spec::specs::Layout::Identifiers::index_pieces))]
 pub fn write_index<O: Output>(out: &mut O, identifier: Option<Identifier<'_>>, number: u64)
     ensures { O.wrote out.old out.new
@@ -135,7 +137,8 @@ pub fn write_index<O: Output>(out: &mut O, identifier: Option<Identifier<'_>>, n
 }
 
 /// Writes the declaration of an item of an index space: its identifier and name, if it has them, and a comment with
-/// its index. `outer` is the function of a local or the type of a field; it is ignored for items of other spaces.
+/// its index. `outer` is the function of a local or label or the type of a field; it is ignored for items of other
+/// spaces. The identifier is that of [`Identifiers::item`]; it is not checked that the module has such an item.
 pub fn write_declaration_of<O: Output>(
     out: &mut O,
     identifiers: &Identifiers<'_, '_>,
@@ -150,7 +153,8 @@ pub fn write_declaration_of<O: Output>(
 }
 
 /// Writes an index into an index space: the identifier of the item or, if it has none, the number. `outer` is the
-/// function of a local or the type of a field; it is ignored for other spaces.
+/// function of a local or label or the type of a field; it is ignored for other spaces. The index may refer to nothing:
+/// it is not checked that the module has such an item.
 pub fn write_index_of<O: Output>(
     out: &mut O,
     identifiers: &Identifiers<'_, '_>,
@@ -165,7 +169,7 @@ pub fn write_index_of<O: Output>(
 }
 
 /// Writes a group of a keyword and an index into an index space of the module. The index is written as
-/// [`write_index_of`] does.
+/// [`write_index_of`] does, with 0 for `outer`.
 #[tactic(auto, unfolding(wasmprinter_spec::specs::Layout::Groups::line_group_space))]
 pub fn write_index_group<O: Output>(
     out: &mut O,

@@ -23,7 +23,7 @@ pub fn hint_text(taken: bool) -> &'static str
     if taken { TAKEN_NOTE } else { NOT_TAKEN_NOTE }
 }
 
-/// Writes the annotation that says whether the operator after it is likely to branch.
+/// Writes the annotation that says whether the operator after it is likely to branch, in the style of comments.
 pub fn write_hint_annotation<O: Output>(out: &mut O, taken: bool)
     ensures { O.wrote out.old out.new (HintAnnotation taken ∷ []) }
 {

@@ -19,7 +19,8 @@ fn write_max<O: Output>(out: &mut O, max: Option<u64>)
     }
 }
 
-/// Writes the minimum and, if there is one, the maximum, as one literal.
+/// Writes the minimum and, if there is one, a space and the maximum, in decimal and in the style of literals. It is not
+/// checked that the maximum is not below the minimum.
 #[tactic(auto, unfolding(wasmprinter_spec::specs::Layout::Limits::limits_pieces))]
 pub fn write_limits<O: Output>(out: &mut O, min: u64, max: Option<u64>)
     ensures { O.wrote out.old out.new (limits_pieces (limits_of min max)) }
@@ -30,7 +31,8 @@ pub fn write_limits<O: Output>(out: &mut O, min: u64, max: Option<u64>)
     out.reset_color();
 }
 
-/// Writes a page size in bytes in hexadecimal, given its exponent as a power of two.
+/// Writes a page size in bytes in hexadecimal, given its exponent as a power of two, which must be below 64: `0x` and
+/// the digits, without a style.
 pub fn write_page_size<O: Output>(out: &mut O, exponent: u32)
     requires { exponent < 64 }
     ensures { O.wrote out.old out.new (Word (codes "0x" ++ digits 16 false (2 ^ exponent)) ∷ []) }

@@ -115,14 +115,14 @@ fn write_line_start<O: Output>(out: &mut O, place: Option<u64>, levels: usize)
     write_indent(out, levels);
 }
 
-/// Starts the first line, at this place.
+/// Starts the first line, at this place. It writes no text: neither the place nor an indent.
 pub fn start_first_line<O: Output>(out: &mut O, place: u64)
     ensures { O.wrote out.old out.new (Begin place ∷ []) }
 {
     out.start_line(Some(place));
 }
 
-/// Ends the last line.
+/// Ends the last line: writes a line feed.
 pub fn end_last_line<O: Output>(out: &mut O)
     ensures { O.wrote out.old out.new (EndLine ∷ []) }
 {
@@ -130,7 +130,8 @@ pub fn end_last_line<O: Output>(out: &mut O)
 }
 
 /// Starts a new line at nesting depth `nesting`. `place` is its place, if it has one: a byte offset from the start
-/// of the module.
+/// of the module. Ends the current line before. If the options ask for places, the new line begins with its place in a
+/// comment, or with the same number of spaces if it has none. The indent follows, once for each level up to 50.
 pub fn write_break<O: Output>(out: &mut O, place: Option<u64>, nesting: u64)
     ensures { O.wrote out.old out.new (Break place nesting ∷ []) }
 {
@@ -138,7 +139,7 @@ pub fn write_break<O: Output>(out: &mut O, place: Option<u64>, nesting: u64)
     out.begin_line();
 }
 
-/// Starts a new line at nesting depth `nesting + depth`.
+/// Starts a new line with this place at nesting depth `nesting + depth`, as [`write_break`] does.
 pub fn write_break_inside<O: Output>(out: &mut O, place: u64, nesting: u64, depth: u64)
     ensures { O.wrote out.old out.new (Break (Some place) (nesting + depth) ∷ []) }
 {
@@ -157,7 +158,8 @@ fn write_close<O: Output>(out: &mut O, place: Option<u64>, nesting: u64, on_new_
 }
 
 /// Closes a group and leaves it. If the group contains a line break, it closes on a line of its own, which has no
-/// place. `outer_begun` says whether a line had begun in the group around it, as `enter_group` returned.
+/// place. Otherwise it closes on the current line. `nesting` is the nesting depth of the group itself. `outer_begun`
+/// says whether a line had begun in the group around it, as `enter_group` returned.
 pub fn close_group<O: Output>(out: &mut O, nesting: u64, outer_begun: bool)
     ensures { Closed (groups O.wrote O.begun O.left_group) out.old out.new (close None nesting) outer_begun }
 {
@@ -167,7 +169,8 @@ pub fn close_group<O: Output>(out: &mut O, nesting: u64, outer_begun: bool)
 }
 
 /// Closes a group that ends at a place. If the group contains a line break, or lines begin with their places, it
-/// closes on a line of its own. `outer_begun` says whether a line had begun in the group around it, as `enter_group`
+/// closes on a line of its own, with that place. Otherwise it closes on the current line. `nesting` is the nesting
+/// depth of the group itself. `outer_begun` says whether a line had begun in the group around it, as `enter_group`
 /// returned.
 pub fn close_group_at<O: Output>(out: &mut O, place: u64, nesting: u64, outer_begun: bool)
     ensures { Closed (groups O.wrote O.begun O.left_group) out.old out.new (close_at O.chosen place nesting) outer_begun }

@@ -11,7 +11,7 @@ use wasmprinter_print::{Output, Style};
 /// The base of hexadecimal numbers.
 pub const HEXADECIMAL: u64 = 16;
 
-/// Returns a power of two.
+/// Returns 2 to the power of `exponent`, which must be below 64.
 pub fn power(exponent: u32) -> u64
     requires { exponent < 64 }
     ensures { result ≡ 2 ^ exponent }
@@ -39,7 +39,8 @@ pub(crate) fn write_digit<O: Output>(out: &mut O, digit: u8)
     out.write_str(char::from(hex_digit(digit)).encode_utf8(&mut [0; 4]));
 }
 
-/// Writes a number in hexadecimal, each digit in a call of its own.
+/// Writes a number in hexadecimal, in lower case, without a prefix and without leading zeros. Each digit is a call of
+/// its own, but the contract does not say how the text is split into calls.
 pub fn write_hexadecimal<O: Output>(out: &mut O, n: u64)
     ensures { O.called out.old out.new (Text (digits 16 false n) ∷ []) }
 {
@@ -59,7 +60,7 @@ pub(crate) fn write_decimal<O: Output>(out: &mut O, n: u64)
     out.write_str(digits.format(n));
 }
 
-/// Writes the two hexadecimal digits of a byte.
+/// Writes the two hexadecimal digits of a byte, in lower case and the higher one first.
 pub fn write_byte_digits<O: Output>(out: &mut O, byte: u8)
     ensures { O.called out.old out.new
         (Text (digit_glyph false (byte / 16) ∷ (digit_glyph false (byte % 16) ∷ [])) ∷ []) }
@@ -78,7 +79,7 @@ pub(crate) fn hexadecimal_len(n: u64) -> usize
     hexadecimal_len(n / HEXADECIMAL) + 1
 }
 
-/// Writes a number in hexadecimal between two texts.
+/// Writes a number between two texts, in hexadecimal as [`write_hexadecimal`] does.
 pub fn write_hexadecimal_between<O: Output>(out: &mut O, before: &str, n: u64, after: &str)
     ensures { O.called out.old out.new (Text (before.now ++ (digits 16 false n ++ after.now)) ∷ []) }
 {
@@ -97,13 +98,15 @@ pub fn write_decimal_between<O: Output>(out: &mut O, before: &str, n: u64, after
 }
 
 /// Writes an index.
+///
+/// It is in decimal and in the style of names.
 pub fn write_index<O: Output>(out: &mut O, n: u64)
     ensures { O.wrote out.old out.new (Number n ∷ []) }
 {
     write_in_style(out, Style::Name, Buffer::new().format(n));
 }
 
-/// Writes a space and an index.
+/// Writes a space without a style, and an index as [`write_index`] does.
 pub fn write_space_index<O: Output>(out: &mut O, index: u32)
     ensures { O.wrote out.old out.new (OneSpace ∷ (Number index ∷ [])) }
 {
@@ -111,7 +114,7 @@ pub fn write_space_index<O: Output>(out: &mut O, index: u32)
     write_index(out, u64::from(index));
 }
 
-/// Writes a number as a word without a style.
+/// Writes a number in decimal as a word without a style.
 pub fn write_number_word<O: Output>(out: &mut O, n: u64)
     ensures { O.wrote out.old out.new (Word (decimal n) ∷ []) }
 {
@@ -119,6 +122,8 @@ pub fn write_number_word<O: Output>(out: &mut O, n: u64)
 }
 
 /// Writes a word that ends in a number, without a style.
+///
+/// It consists of `word` and of the number in decimal.
 pub fn write_numbered_word<O: Output>(out: &mut O, word: &str, n: u64)
     ensures { O.wrote out.old out.new (Word (word.now ++ decimal n) ∷ []) }
 {
@@ -126,7 +131,7 @@ pub fn write_numbered_word<O: Output>(out: &mut O, word: &str, n: u64)
     write_decimal(out, n);
 }
 
-/// Writes a space and a signed number.
+/// Writes a space and a signed number in decimal, both in the style of literals. Only a negative number has a sign.
 pub fn write_signed<O: Output>(out: &mut O, n: i64)
     ensures { O.wrote out.old out.new (Constant n ∷ []) }
 {

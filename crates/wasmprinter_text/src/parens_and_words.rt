@@ -25,7 +25,7 @@ pub(crate) fn write_two_in_style<O: Output>(out: &mut O, style: Style, first: &s
     out.reset_color();
 }
 
-/// Opens a group: a parenthesis and a keyword.
+/// Opens a group: writes a parenthesis without a style, then the keyword in the style of keywords.
 pub fn open_group<O: Output>(out: &mut O, keyword: &str)
     ensures { O.wrote out.old out.new (Open keyword.now ∷ []) }
 {
@@ -33,7 +33,7 @@ pub fn open_group<O: Output>(out: &mut O, keyword: &str)
     write_in_style(out, Style::Keyword, keyword);
 }
 
-/// Opens a group, and writes a space after its keyword.
+/// Opens a group as [`open_group`] does, and writes a space after its keyword in the same style.
 pub fn open_group_space<O: Output>(out: &mut O, keyword: &str)
     ensures { O.wrote out.old out.new (OpenSpace keyword.now ∷ []) }
 {
@@ -49,7 +49,8 @@ pub fn open_plain<O: Output>(out: &mut O, unstyled: &str)
     out.write_str(unstyled);
 }
 
-/// Opens a group whose keyword is the word of a type, and writes a space after it.
+/// Opens a group whose keyword is the word of a type: writes a parenthesis without a style, then the keyword and a
+/// space in the style of types.
 pub fn open_type_space<O: Output>(out: &mut O, keyword: &str)
     ensures { O.wrote out.old out.new (OpenTypeSpace keyword.now ∷ []) }
 {
@@ -57,7 +58,7 @@ pub fn open_type_space<O: Output>(out: &mut O, keyword: &str)
     write_two_in_style(out, Style::TypeName, keyword, " ");
 }
 
-/// Opens a group without a keyword.
+/// Opens a group without a keyword: writes a parenthesis without a style, then an empty text in the style of keywords.
 pub fn open_unnamed<O: Output>(out: &mut O)
     ensures { O.wrote out.old out.new (OpenUnnamed ∷ []) }
 {
@@ -65,14 +66,14 @@ pub fn open_unnamed<O: Output>(out: &mut O)
     write_in_style(out, Style::Keyword, "");
 }
 
-/// Writes a closing parenthesis on the current line.
+/// Writes a closing parenthesis on the current line, without a style.
 pub fn write_close_paren<O: Output>(out: &mut O)
     ensures { O.wrote out.old out.new (CloseParen ∷ []) }
 {
     out.write_str(")");
 }
 
-/// Writes a space.
+/// Writes a space without a style.
 pub fn write_space<O: Output>(out: &mut O)
     ensures { O.wrote out.old out.new (OneSpace ∷ []) }
 {
@@ -86,35 +87,35 @@ pub fn write_word<O: Output>(out: &mut O, word: &str)
     out.write_str(word);
 }
 
-/// Writes the word of a type.
+/// Writes the word of a type, in the style of types.
 pub fn write_type_word<O: Output>(out: &mut O, word: &str)
     ensures { O.wrote out.old out.new (TypeWord word.now ∷ []) }
 {
     write_in_style(out, Style::TypeName, word);
 }
 
-/// Writes the word of a type and a space.
+/// Writes the word of a type and a space, both in the style of types.
 pub fn write_type_word_space<O: Output>(out: &mut O, word: &str)
     ensures { O.wrote out.old out.new (TypeWordSpace word.now ∷ []) }
 {
     write_two_in_style(out, Style::TypeName, word, " ");
 }
 
-/// Writes a space and the word of a type.
+/// Writes a space and the word of a type, both in the style of types.
 pub fn write_space_type_word<O: Output>(out: &mut O, word: &str)
     ensures { O.wrote out.old out.new (SpaceTypeWord word.now ∷ []) }
 {
     write_two_in_style(out, Style::TypeName, " ", word);
 }
 
-/// Starts the style of names.
+/// Starts the style of names, which lasts until another style starts or [`end_style`] ends it. Writes no text.
 pub fn begin_name<O: Output>(out: &mut O)
     ensures { O.wrote out.old out.new (BeginName ∷ []) }
 {
     out.start(Style::Name);
 }
 
-/// Ends the current style: the text after it has none.
+/// Ends the current style: the text after it has none. Writes no text.
 pub fn end_style<O: Output>(out: &mut O)
     ensures { O.wrote out.old out.new (EndStyle ∷ []) }
 {

@@ -93,12 +93,15 @@ fn write_to_printer<P: Print, V: Value>(out: &mut Printer<'_, '_, P, Brand>, val
     value.write(out);
 }
 
-/// Writes a value to a printer.
+/// Writes a value to a printer. On `Ok`, all calls that write the value ([`Value`]) were made and succeeded, up to how
+/// text is split into calls.
 ///
 /// # Errors
 ///
-/// - `Printer` with the error of the call on the printer that failed. The calls before it succeeded, and with it they
-///   are a prefix of the calls for the text.
+/// - `Printer` with exactly the error of the call on the printer that failed. The calls before it succeeded, and with
+///   it they are a prefix of the calls for the value, up to how text is split into calls. No call was made after it.
+///
+/// No other error is returned.
 pub fn write_value<P: Print, V: Value>(p: &mut P, value: &V) -> Result<(), Error>
     ensures { MadeCalls P.meaning p.old p.new (outcome result) (V.calls value.now) }
 {
@@ -108,26 +111,32 @@ pub fn write_value<P: Print, V: Value>(p: &mut P, value: &V) -> Result<(), Error
     out.finish()
 }
 
-/// Writes a text as a quoted string: printable ASCII characters except `"` and `\` unescaped, any other character
-/// as `\u{..}` with its number in hexadecimal (section 6.3 of the standard, "Strings").
+/// Writes a text as a quoted string in the style of literals: printable ASCII characters except `"` and `\` unescaped,
+/// any other character as `\u{..}` with its number in hexadecimal (section 6.3 of the standard, "Strings"). On `Ok`,
+/// all calls for the value were made and succeeded, up to how text is split into calls.
 ///
 /// # Errors
 ///
-/// - `Printer` with the error of the call on the printer that failed. The calls before it succeeded, and with it they
-///   are a prefix of the calls for the text.
+/// - `Printer` with exactly the error of the call on the printer that failed. The calls before it succeeded, and with
+///   it they are a prefix of the calls for the value, up to how text is split into calls. No call was made after it.
+///
+/// No other error is returned.
 pub fn write_quoted<P: Print>(p: &mut P, s: &str) -> Result<(), Error>
     ensures { MadeCalls P.meaning p.old p.new (outcome result) (calls_in_style Literal (quoted_text (chars s.now))) }
 {
     write_value(p, &Text { text: s })
 }
 
-/// Writes bytes as a quoted string: printable ASCII except `"` and `\` unescaped, any other byte as `\hh` with its
-/// two hexadecimal digits (section 6.3 of the standard, "Strings").
+/// Writes bytes as a quoted string in the style of literals: printable ASCII except `"` and `\` unescaped, any other
+/// byte as `\hh` with its two hexadecimal digits (section 6.3 of the standard, "Strings"). On `Ok`, all calls for the
+/// value were made and succeeded, up to how text is split into calls.
 ///
 /// # Errors
 ///
-/// - `Printer` with the error of the call on the printer that failed. The calls before it succeeded, and with it they
-///   are a prefix of the calls for the text.
+/// - `Printer` with exactly the error of the call on the printer that failed. The calls before it succeeded, and with
+///   it they are a prefix of the calls for the value, up to how text is split into calls. No call was made after it.
+///
+/// No other error is returned.
 pub fn write_bytes<P: Print>(p: &mut P, bytes: &[u8]) -> Result<(), Error>
     ensures { MadeCalls P.meaning p.old p.new (outcome result) (calls_in_style Literal (quoted_bytes bytes.now)) }
 {
@@ -136,24 +145,30 @@ pub fn write_bytes<P: Print>(p: &mut P, bytes: &[u8]) -> Result<(), Error>
 
 /// Writes a 32-bit float, given its bits, in the text format (section 6.3 of the standard, "Floating-Point"). A
 /// finite number is written in hexadecimal, so that the text has exactly its value. A NaN is written with its
-/// payload unless that is the canonical one. A comment follows infinity and NaN.
+/// payload unless that is the canonical one. A comment follows infinity and NaN. On `Ok`, all calls for the value were
+/// made and succeeded, up to how text is split into calls.
 ///
 /// # Errors
 ///
-/// - `Printer` with the error of the call on the printer that failed. The calls before it succeeded, and with it they
-///   are a prefix of the calls for the text.
+/// - `Printer` with exactly the error of the call on the printer that failed. The calls before it succeeded, and with
+///   it they are a prefix of the calls for the value, up to how text is split into calls. No call was made after it.
+///
+/// No other error is returned.
 pub fn write_f32<P: Print>(p: &mut P, bits: u32) -> Result<(), Error>
     ensures { MadeCalls P.meaning p.old p.new (outcome result) (float_calls single bits) }
 {
     write_value(p, &Single { bits })
 }
 
-/// Writes a 64-bit float, given its bits, as `write_f32` writes a 32-bit float.
+/// Writes a 64-bit float, given its bits, as `write_f32` writes a 32-bit float. On `Ok`, all calls for the value were
+/// made and succeeded, up to how text is split into calls.
 ///
 /// # Errors
 ///
-/// - `Printer` with the error of the call on the printer that failed. The calls before it succeeded, and with it they
-///   are a prefix of the calls for the text.
+/// - `Printer` with exactly the error of the call on the printer that failed. The calls before it succeeded, and with
+///   it they are a prefix of the calls for the value, up to how text is split into calls. No call was made after it.
+///
+/// No other error is returned.
 pub fn write_f64<P: Print>(p: &mut P, bits: u64) -> Result<(), Error>
     ensures { MadeCalls P.meaning p.old p.new (outcome result) (float_calls double bits) }
 {

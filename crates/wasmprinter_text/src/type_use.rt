@@ -43,7 +43,8 @@ fn write_signature_at<O: Output, S: Signatures>(
     }
 }
 
-/// Writes a space and a group `(type ..)` with the index of a type, by the type's identifier if it has one.
+/// Writes a space and a group `(type ..)` with the index of a type, by the type's identifier if it has one. It is not
+/// checked that there is such a type.
 #[tactic(auto, unfolding(wasmprinter_spec::specs::Layout::ValTypes::type_index_pieces))]
 pub fn write_type_index<O: Output>(out: &mut O, identifiers: &Identifiers<'_, '_>, index: u32)
     ensures { O.wrote out.old out.new
@@ -53,8 +54,9 @@ pub fn write_type_index<O: Output>(out: &mut O, identifiers: &Identifiers<'_, '_
     write_index_group(out, identifiers, "type", Space::Types, index);
 }
 
-/// Writes a space, a group with the index of a type, and the parameters and results of that type if it is a
-/// function type. The parameters have identifiers only if `owner` is their function.
+/// Writes a space, a group `(type ..)` with the index of a type, and the parameters and results of that type if it is a
+/// function type. If `types` has no function type with this index, only the space and the group are written. The
+/// parameters have the identifiers of those of the function `owner`; for `None` they have none.
 pub fn write_type_use<O: Output, S: Signatures>(
     out: &mut O,
     identifiers: &Identifiers<'_, '_>,

@@ -76,7 +76,8 @@ pub(crate) fn write_type_number<O: Output>(
     write_index_of(out, identifiers, Space::Types, 0, u64::from(index));
 }
 
-/// Writes a heap type: its word or, for a type index, the identifier of that type or the index.
+/// Writes a heap type: its word or, for a type index, the identifier of that type or the index. It is not checked that
+/// there is such a type.
 #[tactic(auto, unfolding(wasmprinter_spec::specs::Layout::ValTypes::heap_pieces))]
 pub fn write_heap_type<O: Output>(out: &mut O, identifiers: &Identifiers<'_, '_>, heap: HeapType)
     ensures { O.wrote out.old out.new (heap_pieces (names_of_identifiers identifiers.now) (heap_view heap)) }
@@ -124,8 +125,8 @@ fn write_some_ref<O: Output>(out: &mut O, identifiers: &Identifiers<'_, '_>, hea
     write_close_paren(out);
 }
 
-/// Writes a reference type: a word such as `funcref` if there is one, otherwise a group such as `(ref func)`. A type
-/// index in it is written by the identifier of the type, if it has one.
+/// Writes a reference type. A nullable reference to an abstract heap type is one word, such as `funcref`. Any other is
+/// a group, such as `(ref func)` or `(ref null 0)`. A type index in it is written as [`write_heap_type`] does.
 #[tactic(auto, unfolding(wasmprinter_spec::specs::Layout::ValTypes::ref_pieces))]
 pub fn write_ref_type<O: Output>(out: &mut O, identifiers: &Identifiers<'_, '_>, ref_type: RefType)
     ensures { O.wrote out.old out.new (ref_pieces (names_of_identifiers identifiers.now) (ref_view ref_type)) }
@@ -182,7 +183,8 @@ fn write_type_list<O: Output>(out: &mut O, identifiers: &Identifiers<'_, '_>, ty
     }
 }
 
-/// Writes a space and a group of a keyword and types, with a space before each type.
+/// Writes a space and a group of a keyword and types, with a space before each type. The group is written also if there
+/// are no types.
 #[tactic(auto, unfolding(wasmprinter_spec::specs::Layout::Groups::line_group))]
 pub fn write_type_group<O: Output>(
     out: &mut O,

@@ -252,7 +252,8 @@ fn write_sub_type<O: Output>(
     }
 }
 
-/// Writes the definition of the type with the given index as one group, without a line break before it.
+/// Writes the definition of the type with the given index as one group in one line, without a line break before it. A
+/// final type without supertypes is written as its composite type alone, any other as a group `(sub ..)`.
 #[tactic(auto, unfolding(wasmprinter_spec::specs::Layout::Types::type_pieces, wasmprinter_spec::specs::Layout::Groups::line_group_space))]
 pub fn write_type_field<O: Output>(
     out: &mut O,
