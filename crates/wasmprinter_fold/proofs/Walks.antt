@@ -86,8 +86,8 @@ abbrev pub run_items : Bool → Setting → Signatures → List (Placed Hint) �
 run_items color s t hs l ls u os = run_all u (steps (shown_head color) (items s t hs l.count l.labels ls os))
 
 -- The loop invariant: all operators before `rest` were folded, and `left` are the hints still to be used. Folding
--- `rest` from here gives the result of folding all operators from the start. None of the folded operators belongs
--- to legacy exception handling. Even if each remaining operator opens a block, the number of blocks stays below
+-- `rest` from here gives the result of folding all operators from the start. None of the folded operators is
+-- `try`, `catch`, `catch_all` or `delegate`. Even if each remaining operator opens a block, the number of blocks stays below
 -- 2^64.
 pub record Progress (color : Bool) (s : Setting) (t : Signatures) (from : LabelState) (hints : List (Placed Hint)) (all rest : List (Placed Operator)) (left : List (Placed Hint)) (l : LabelState) (g : GrowingTree) : Type 0 where
   pub state : StateOf ShownNode
@@ -128,12 +128,12 @@ module _ {color : Bool} {s : Setting} {t : Signatures} {from : LabelState} {hint
   pub has_count : (rest : List (Placed Operator)) (x : ℕ × Operator) → pairs os ≡ x ∷ pairs rest → l.count + 1 < 2 ^ 64
   has_count rest x e = omega (arith, p.counted, ap length (first-pair os rest x e))
 
-  -- A list with an operator of legacy exception handling has no tree.
+  -- A list with `try`, `catch`, `catch_all` or `delegate` has no tree.
   pub refuses : (rest : List (Placed Operator)) (x : ℕ × Operator) → pairs os ≡ x ∷ pairs rest → is_try (role_of x.1.opcode) ≡ true →
       nested_code_of (items s t hints 0 [] [] all) ≡ None
   refuses rest x e h = by_code (nested_code_of (items s t hints 0 [] [] all)) refl
     where
-      -- If the list had a tree, none of its operators would belong to legacy exception handling.
+      -- If the list had a tree, none of its operators would be `try`, `catch`, `catch_all` or `delegate`.
       by_code : (c : Option NestedCode) → nested_code_of (items s t hints 0 [] [] all) ≡ c → c ≡ None
       by_code None q = refl
       by_code (Some code) q =

@@ -1,4 +1,4 @@
--- If a module can be folded, no list of operators that is printed contains an operator of legacy exception handling.
+-- If a module can be folded, no list of operators that is printed contains `try`, `catch`, `catch_all` or `delegate`.
 use Rattle.std.proofs.Common.{◌≡◌, Bool, true, false, cond, List, [], ◌∷◌, ◌++◌, map, Option, Some, None, refl, subst}
 use Rattle.std.specs.List.{AllByRecursion, flat_map}
 use Rattle.wasmprinter_spec.specs.Table.{role_of}
@@ -12,7 +12,7 @@ use Rattle.wasmprinter_spec.proofs.Each.{all_parts}
 use Rattle.wasmprinter_laws.proofs.Each.{nothing_joined, all_flat, all_mapped}
 use Rattle.wasmprinter_laws.proofs.Folded.Lists.{is_folding, AreFoldable}
 
--- ---- a list without places of legacy exception handling contains no operator of it
+-- ---- a list without places of `try`, `catch`, `catch_all` and `delegate` contains no operator of it
 
 without_try : (os : Operators) → legacy_places_in os ≡ [] → AreWithoutTry (roles os)
 without_try [] e = tt

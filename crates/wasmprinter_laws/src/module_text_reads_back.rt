@@ -69,8 +69,8 @@ pub fn named_operators_read_back()
 
 /// The text that is laid out for folded operators, over several lines or in one, with or without branch hints before
 /// them, reads as exactly these operators, for any numbers of operands and results by which they are folded. No
-/// operator is one of legacy exception handling: `try`, `catch`, `catch_all` or `delegate`. The text has no colors. The
-/// other premises are those of [`printed_operators_read_back`].
+/// operator is `try`, `catch`, `catch_all` or `delegate`. The text has no colors. The other premises are those of
+/// [`printed_operators_read_back`].
 pub fn folded_operators_read_back()
     ensures { FoldedOperatorsReadBack }
 {}
@@ -80,9 +80,9 @@ pub fn folded_operators_read_back()
 /// `then` or `else`. This holds for any numbers of operands and results by which operators are folded.
 ///
 /// The premises: the operators are well nested and in the table, with the immediates that it lists. Their numbers and
-/// the type indices in signatures are in range. None is one of legacy exception handling. Each identifier and each name
-/// is UTF-8, and no identifier is empty. The text has no colors, and its indent consists of spaces and tabs. Indices
-/// need not be declared, nor identifiers distinct.
+/// the type indices in signatures are in range. None is `try`, `catch`, `catch_all` or `delegate`. Each identifier and
+/// each name is UTF-8, and no identifier is empty. The text has no colors, and its indent consists of spaces and tabs.
+/// Indices need not be declared, nor identifiers distinct.
 pub fn folded_groups_are_nodes()
     ensures { FoldedGroupsAreNodes }
 {}

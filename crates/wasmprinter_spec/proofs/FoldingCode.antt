@@ -1,4 +1,4 @@
--- The tree of a list represents the list. Every list that is well nested and without legacy exception handling has
+-- The tree of a list represents the list. Every list that is well nested and without `try`, `catch`, `catch_all` and `delegate` has
 -- a tree.
 use Rattle.std.proofs.Common.{subst, ◌≡◌, List, [], ◌∷◌, ◌++◌, map, refl, sym, ◌∙◌, ap, append_assoc, true, false, Option, Some}
 use Rattle.std.proofs.lemmas.List.{append-nil, map-append}
@@ -258,7 +258,7 @@ nothing_grows : (xs : List Item) → map role xs ≡ [] → HasTree xs
 nothing_grows [] e = record { code = Done; is_flat = refl; is_fit = tt }
 nothing_grows (x ∷ xs) e = absurd cc
 
--- No operator belongs to legacy exception handling.
+-- No operator is `try`, `catch`, `catch_all` or `delegate`.
 no_try : true ≡ false → ⊥
 no_try e = cc
 
@@ -317,7 +317,7 @@ nested_code_of-nested xs n h =
 
 -- ---- operators that have a tree are well nested
 
--- The roles are well nested, and none belongs to legacy exception handling.
+-- The roles are well nested, and none is `try`, `catch`, `catch_all` or `delegate`.
 abbrev IsNested : List Role → Type 0
 IsNested rs = Nests Sequence rs × AreWithoutTry rs
 

@@ -1,5 +1,5 @@
 -- The operators of the items of a list are the operators of the list. A list can be folded exactly if it is well
--- nested and contains no operator of legacy exception handling.
+-- nested and contains none of `try`, `catch`, `catch_all` and `delegate`.
 use Rattle.std.proofs.Common.{subst, ◌≡◌, ℕ, ◌+◌, List, [], ◌∷◌, ◌++◌, map, length, refl, sym, ap, Bool, true, Option, Some, None, option_map}
 use Rattle.wasmprinter_spec.specs.Grammar.{Placed}
 use Rattle.wasmprinter_spec.specs.Operator.{Operator}
@@ -34,7 +34,7 @@ module _ (s : Setting) (t : Signatures) where
   unfolding operator_pieces
   operator_pieces-item hint first own xs ls o = refl
 
-  -- Every list that is well nested and without legacy exception handling can be folded.
+  -- Every list that is well nested and without `try`, `catch`, `catch_all` and `delegate` can be folded.
   pub folded_pieces-nested : FoldedRule s t
   unfolding folded_pieces
   folded_pieces-nested o color hs os n h =

@@ -67,7 +67,7 @@ abbrev pub is_folding : Option Folding → Bool
 is_folding None = false
 is_folding (Some f) = true
 
--- If operators are folded, none is one of legacy exception handling.
+-- If operators are folded, none is `try`, `catch`, `catch_all` or `delegate`.
 abbrev pub AreFoldable : Option Folding → List (Placed Operator) → Type 0
 AreFoldable None os = Unit {0}
 AreFoldable (Some f) os = AreWithoutTry (roles os)
@@ -148,7 +148,7 @@ unhinted_list_writes f bare own s named ranged os l =
 
 -- ---- the items are the code of the operators
 
--- Well-nested operators without legacy exception handling have a tree.
+-- Well-nested operators without `try`, `catch`, `catch_all` and `delegate` have a tree.
 pub has_tree : (s : Setting) (signatures : Signatures) (hs : List (Placed Hint)) (os : List (Placed Operator)) → Nests Sequence (roles os) → AreWithoutTry (roles os) →
     (code : NestedCode) × (folding.nested_code_of (items s signatures hs 0 [] [] os) ≡ Some code)
 has_tree s signatures hs os n t =

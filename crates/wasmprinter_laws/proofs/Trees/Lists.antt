@@ -49,7 +49,7 @@ pub record HasNodes (s : Setting) (signatures : Signatures) (hs : List (Placed H
   pub row : IsRowOf (folded_items false s signatures hs os) groups
   pub heads : with_heads (λ f. Some f) groups ≡ with_heads (λ h. items_in (head_text defaults h)) nodes
 
--- A well-nested list without legacy exception handling has a tree with these nodes.
+-- A well-nested list without `try`, `catch`, `catch_all` and `delegate` has a tree with these nodes.
 pub list_has : (s : Setting) → AreNamed s.names → AreSignaturesInRange s.signature → (signatures : Signatures) (hs : List (Placed Hint)) (os : List (Placed Operator)) →
     AllByRecursion IsListed (without_places os) → Nests Sequence (roles os) → AreWithoutTry (roles os) → HasNodes s signatures hs os
 list_has s named ranged signatures hs os l n t =

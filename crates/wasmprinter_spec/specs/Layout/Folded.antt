@@ -130,13 +130,13 @@ folded_list f own s hs os = if_folded (folded_pieces defaults f.color s (f.signa
 
 -- ---- Laws
 
--- A list is folded if it is well nested and has no operator of legacy exception handling.
+-- A list is folded if it is well nested and has none of `try`, `catch`, `catch_all` and `delegate`.
 abbrev pub FoldedRule : Setting → Signatures → Type 0
 FoldedRule s signatures =
     (o : Options) (color : Bool) (hs : List (Placed Hint)) (os : List (Placed Operator))
     → Nests Sequence (roles os) → AreWithoutTry (roles os) → (ps : List Piece) × (folded_pieces o color s signatures hs os ≡ Some ps)
 
--- A list that is folded is well nested and has no operator of legacy exception handling.
+-- A list that is folded is well nested and has none of `try`, `catch`, `catch_all` and `delegate`.
 abbrev pub FoldingRule : Setting → Signatures → Type 0
 FoldingRule s signatures =
     (o : Options) (color : Bool) (hs : List (Placed Hint)) (os : List (Placed Operator)) (ps : List Piece)
