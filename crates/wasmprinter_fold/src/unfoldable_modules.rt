@@ -7,11 +7,11 @@ ghost use Rattle.wasmprinter_bytes.specs.declared.library_error.Error.TheVariant
 ghost use Rattle.wasmprinter_spec.specs.Folding.Refusals.{legacy_places_in, legacy_places, lists_before_code, body_lists, misplaced_hints};
 ghost use Rattle.wasmprinter_fold.specs.Refused.{error_of_first, HasFoldReason};
 
-mod check_hints;
+mod hint_checks;
 mod item_expressions;
 mod legacy_operators;
 
-use check_hints::check_hints;
+use hint_checks::check_hints;
 use item_expressions::{check_bodies, check_each};
 use wasmprinter_bytes::Error;
 use wasmprinter_decoder::{Fields, Module};
