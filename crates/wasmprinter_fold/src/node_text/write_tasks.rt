@@ -4,7 +4,7 @@ ghost use Rattle.std.specs.Vec.{vec_len, vec_capacity};
 ghost use Rattle.wasmprinter_fold.specs.Postorder.{IsPostorder};
 ghost use Rattle.wasmprinter_fold.specs.Tasks.{StacksRow, StacksRest, KeepsSoundRow, KeepsSound, IsSound, steps_left, steps_of, rest_of};
 
-use crate::nodes::{Node, NodeText, split_last};
+use crate::nodes::{Node, NodeText, split_last_node};
 use std::alloc::AllocError;
 
 /// A part of nodes that is still to be written.
