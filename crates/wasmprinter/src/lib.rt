@@ -14,16 +14,16 @@ mod ansi_printing;
 mod ansi_text_printer;
 mod config;
 mod file_printing;
-mod file_source;
 mod find_operator_line;
 mod offsets_and_lines;
 pub mod printer_laws;
+mod source_trait;
 mod string_printer;
 mod string_printing;
 
 pub use config::Config;
 pub use file_printing::print_file;
-pub use file_source::Source;
+pub use source_trait::Source;
 pub use find_operator_line::place_of;
 pub use print::{Print, PrintFmtWrite, PrintIoWrite, PrintTermcolor, PrintText};
 pub use string_printing::print_bytes;
