@@ -10,8 +10,8 @@
 //! bytes encode, under the conditions that the contracts state. docs/LIBRARY.md has examples, which the tests run.
 #![tactic(auto)]
 
+mod ansi_memory_printer;
 mod ansi_printing;
-mod ansi_text_printer;
 mod config;
 mod file_printing;
 mod find_operator_line;
