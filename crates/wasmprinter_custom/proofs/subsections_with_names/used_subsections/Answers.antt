@@ -1,6 +1,6 @@
 use Rattle.std.proofs.Common.{subst, arith, rules}
 use Rattle.wasmprinter_custom.proofs.Marked.{Marks, marks_more, marked, marks_none}
-use Rattle.wasmprinter_custom.proofs.subsections_in_use.used_subsections.Goals as goal
+use Rattle.wasmprinter_custom.proofs.subsections_with_names.used_subsections.Goals as goal
 
 pub loop-key-init : goal.loop-key-init
 loop-key-init c = record { len = search rules; marks = marks_none c.args.entries.now 256 }
