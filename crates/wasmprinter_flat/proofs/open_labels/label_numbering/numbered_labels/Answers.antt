@@ -1,7 +1,7 @@
 use Rattle.std.proofs.Common.{◌≡◌, arith, length}
 use Rattle.std.proofs.lemmas.Grind.{common_steps}
 use Rattle.wasmprinter_flat.proofs.OpenLabels.Numbering.{numbering_more, numbered}
-use Rattle.wasmprinter_flat.proofs.open_labels.labels_by_name.numbered_labels.Goals as goal
+use Rattle.wasmprinter_flat.proofs.open_labels.label_numbering.numbered_labels.Goals as goal
 
 pub loop-label-preserved : goal.loop-label-preserved
 loop-label-preserved c = let size : c.len.result ≡ length c.loop-label.numbered.items = omega (arith, c.len.ensures) in record {

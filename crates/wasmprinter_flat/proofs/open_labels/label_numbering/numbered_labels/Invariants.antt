@@ -1,6 +1,6 @@
 use Rattle.std.proofs.Common.{◌≡◌, map, take}
 use Rattle.wasmprinter_flat.specs.OpenLabels.Numbers.{IsNumbering}
-use Rattle.wasmprinter_flat.proofs.open_labels.labels_by_name.numbered_labels.Given as goal
+use Rattle.wasmprinter_flat.proofs.open_labels.label_numbering.numbered_labels.Given as goal
 
 abbrev pub invariant-loop-label : goal.invariant-loop-label
 invariant-loop-label l = record {
