@@ -9,7 +9,7 @@ ghost use Rattle.wasmprinter_fold.specs.Refused.{error_of_first, HasFoldReason};
 
 mod hint_checks;
 mod item_expressions;
-mod legacy_operators;
+mod legacy_operator_checks;
 
 use hint_checks::check_hints;
 use item_expressions::{check_bodies, check_each};
