@@ -115,7 +115,7 @@ pub trait Output {
     fn has_begun(&self) -> bool
         ensures { result ≡ begun self.now };
 
-    /// Leaves the innermost group.
+    /// Leaves the innermost group. A line that began in it has then begun in the group around it.
     fn leave_group(&mut self, outer_begun: bool)
         ensures { left_group self.old self.new outer_begun };
 
