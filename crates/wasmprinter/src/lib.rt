@@ -23,9 +23,9 @@ mod string_printing;
 
 pub use config::Config;
 pub use file_printing::print_file;
-pub use source_trait::Source;
 pub use find_operator_line::place_of;
 pub use print::{Print, PrintFmtWrite, PrintIoWrite, PrintTermcolor, PrintText};
+pub use source_trait::Source;
 pub use string_printing::print_bytes;
 pub use wasmprinter_bytes::Error;
 pub use wasmprinter_writers::{LineStart, OffsetsAndLines};

@@ -15,8 +15,8 @@ ghost use Rattle.wasmprinter_flat.specs.OpenLabels.Views.{found_view};
 mod label_numbering;
 mod label_shadowing;
 
-use crate::open_labels::label_shadowing::{NameAt, NamedBlocks};
 use crate::open_labels::label_numbering::{NumberedLabel, numbered_labels};
+use crate::open_labels::label_shadowing::{NameAt, NamedBlocks};
 use std::alloc::{AllocError, Global};
 use std::marker::Model;
 use wasmprinter_custom::{Identifier, Identifiers, NameEntries, Space};
