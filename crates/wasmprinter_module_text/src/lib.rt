@@ -9,7 +9,7 @@ mod dylink;
 mod elements;
 mod exports;
 mod expressions;
-mod field_lines;
+mod field_trait;
 mod func_and_tag_headers;
 mod functions;
 mod globals;

@@ -11,7 +11,7 @@ ghost use Rattle.wasmprinter_decoder.specs.Places.{section_kind_view};
 ghost use Rattle.wasmprinter_module_text.specs.Scopes.{scope_view, function_scope_view};
 ghost use Rattle.wasmprinter_module_text.specs.Parts.{field_line};
 
-use crate::field_lines::{Field, write_each};
+use crate::field_trait::{Field, write_each};
 use crate::functions::write_function;
 use crate::imports::write_imports;
 use crate::module_scope::Scope;

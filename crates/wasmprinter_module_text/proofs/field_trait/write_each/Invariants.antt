@@ -2,7 +2,7 @@ use Rattle.std.specs.Prelude.{◌≡◌, ◌+◌, drop}
 use Rattle.wasmprinter_spec.specs.Layout.Groups.{numbered_pieces}
 use Rattle.wasmprinter_module_text.specs.Scopes.{scope_view}
 use Rattle.wasmprinter_module_text.specs.Parts.{field_line}
-use Rattle.wasmprinter_module_text.proofs.field_lines.write_each.Given as goal
+use Rattle.wasmprinter_module_text.proofs.field_trait.write_each.Given as goal
 
 abbrev pub invariant-loop-index : goal.invariant-loop-index
 invariant-loop-index g l = record {

@@ -2,7 +2,7 @@ use Rattle.std.proofs.Common.{◌+◌, ◌∙◌, sym}
 use Rattle.wasmprinter_module_text.specs.Scopes.{scope_view}
 use Rattle.wasmprinter_module_text.specs.Parts.{field_line}
 use Rattle.wasmprinter_module_text.proofs.Numbering.{numbered_pieces-next, numbered_pieces-none}
-use Rattle.wasmprinter_module_text.proofs.field_lines.write_each.Goals as goal
+use Rattle.wasmprinter_module_text.proofs.field_trait.write_each.Goals as goal
 
 pub loop-index-preserved : goal.loop-index-preserved
 loop-index-preserved g c =

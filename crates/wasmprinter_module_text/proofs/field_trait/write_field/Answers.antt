@@ -1,5 +1,5 @@
 use Rattle.wasmprinter_spec.specs.Layout.Groups.{group_space}
-use Rattle.wasmprinter_module_text.proofs.field_lines.write_field.Goals as goal
+use Rattle.wasmprinter_module_text.proofs.field_trait.write_field.Goals as goal
 
 pub returns-clause-pieces : goal.returns-clause-pieces
 unfolding group_space
