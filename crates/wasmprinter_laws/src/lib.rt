@@ -14,7 +14,7 @@ mod line_places;
 mod literals_read_back;
 mod module_text_reads_back;
 mod names_and_identifiers;
-mod plain_text;
+mod printable_text;
 
 pub use colors::{
     color_adds_sequences, colored_groups_are_nodes, colored_modules_have_trees, colored_text_keeps,
@@ -43,7 +43,7 @@ pub use names_and_identifiers::{
     labels_mean_their_blocks, modules_have_identifiers, name_maps_end_at_the_first_error,
     name_sections_give_entries, name_sections_give_one_list,
 };
-pub use plain_text::{
+pub use printable_text::{
     alike_calls_have_one_text, plain_text_has_no_color, plain_text_is_utf8, plain_texts_join,
     printed_text_is_plain,
 };
