@@ -5,7 +5,7 @@ ghost use Rattle.wasmprinter_spec.specs.Layout.Customs.{note, sizes_group, sizes
 ghost use Rattle.wasmprinter_spec.specs.Layout.Customs.{content_pieces, subsections_pieces, space_quoted, space_quoted_list};
 ghost use Rattle.wasmprinter_custom.specs.Contents.{content_view};
 
-use crate::annotation_depths::{LINE_NESTING, SECTION_NESTING};
+use crate::nesting_constants::{LINE_NESTING, SECTION_NESTING};
 use crate::symbol_flag_printing::write_flags;
 use wasmprinter_custom::{Content, Dylink, DylinkNames, ExportInfo, ImportInfo, ItemsIn, MemInfo};
 use wasmprinter_print::Output;

@@ -2,7 +2,6 @@
 //! sections among them (appendix "Custom Annotations"), and the whole module, to any printer.
 #![tactic(auto)]
 
-mod annotation_depths;
 mod custom_sections;
 mod data_segments;
 mod dylink;
@@ -19,6 +18,7 @@ mod locals;
 mod memories;
 mod module_printing;
 mod module_scope;
+mod nesting_constants;
 mod operators;
 mod producers;
 mod raw;
