@@ -11,7 +11,7 @@ ghost use Rattle.wasmprinter_module_text.specs.Scopes.{scope_view};
 
 use crate::expressions::write_constant_group;
 use crate::field_trait::Field;
-use crate::module_scope::{
+use crate::printing_scope::{
     Scope, write_declaration_in, write_index_group_in, write_index_in, write_ref_type_in,
 };
 use wasmprinter_bytes::lazy_items::Items;

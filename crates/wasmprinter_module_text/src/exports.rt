@@ -8,7 +8,7 @@ ghost use Rattle.wasmprinter_flat.specs.OpenLabels.LabelState.{LabelState, names
 ghost use Rattle.wasmprinter_module_text.specs.Scopes.{scope_view, item_in};
 
 use crate::field_trait::Field;
-use crate::module_scope::{Scope, write_index_in};
+use crate::printing_scope::{Scope, write_index_in};
 use wasmprinter_custom::Space;
 use wasmprinter_decoder::{Export, ExternKind};
 use wasmprinter_print::{FoldingOutput, Output};

@@ -4,7 +4,7 @@ ghost use Rattle.wasmprinter_spec.specs.Layout.Groups.{numbered_pieces};
 ghost use Rattle.wasmprinter_module_text.specs.Scopes.{scope_view};
 ghost use Rattle.wasmprinter_module_text.specs.Parts.{field_line};
 
-use crate::module_scope::{FIELD_NESTING, Scope};
+use crate::printing_scope::{FIELD_NESTING, Scope};
 use wasmprinter_print::FoldingOutput;
 use wasmprinter_text::lines::{close_group, write_break};
 use wasmprinter_text::parens_and_words::open_group_space;

@@ -5,7 +5,7 @@ ghost use Rattle.wasmprinter_spec.specs.Layout.Functions.{header_pieces};
 
 use crate::field_trait::Field;
 use crate::func_and_tag_headers::write_tag_header;
-use crate::module_scope::Scope;
+use crate::printing_scope::Scope;
 use wasmprinter_decoder::Tag;
 use wasmprinter_print::FoldingOutput;
 

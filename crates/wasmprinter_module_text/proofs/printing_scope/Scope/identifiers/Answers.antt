@@ -2,7 +2,7 @@ use Rattle.std.proofs.Common.{ap₂}
 use Rattle.wasmprinter_spec.specs.Names.{names_by, name_in}
 use Rattle.wasmprinter_custom.specs.Spaces.{id_of, outer_of}
 use Rattle.wasmprinter_custom.specs.Views.{name_at}
-use Rattle.wasmprinter_module_text.proofs.module_scope.Scope.identifiers.Goals as goal
+use Rattle.wasmprinter_module_text.proofs.printing_scope.Scope.identifiers.Goals as goal
 
 pub returns : goal.returns
 returns c = record {
