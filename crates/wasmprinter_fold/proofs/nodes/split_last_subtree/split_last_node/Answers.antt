@@ -1,5 +1,5 @@
 use Rattle.wasmprinter_fold.proofs.Lasts.{size_above_zero, size_fits, is_last}
-use Rattle.wasmprinter_fold.proofs.nodes.split_last.split_last_node.Goals as goal
+use Rattle.wasmprinter_fold.proofs.nodes.split_last_subtree.split_last_node.Goals as goal
 
 pub overflow_sub-node : goal.overflow_sub-node
 overflow_sub-node c = size_above_zero _ _ _ c.requires c.in_ok-node.ensures.cases.0
