@@ -8,7 +8,7 @@ ghost use Rattle.wasmprinter_custom.specs.Views.{name_at};
 ghost use Rattle.wasmprinter_custom.specs.Shown.{identifier_view, synthesized_view};
 
 use crate::names::{Name, NameEntries, Names};
-use crate::space::Space;
+use crate::index_space::Space;
 
 /// The identifier of an item.
 #[derive(Clone, Copy, Debug, PartialEq, Eq)]

@@ -14,7 +14,7 @@ use crate::name_position_guesses::Guesses;
 use crate::name_subsection_ids;
 use crate::sorted_names_builder::SortedNames;
 use crate::sorted_names_search::find;
-use crate::space::Space;
+use crate::index_space::Space;
 use crate::subsections_with_names::{SUBSECTIONS, used_subsections};
 use std::alloc::{AllocError, Global};
 use std::collections::BTreeSet;
