@@ -1,8 +1,8 @@
 use Rattle.std.specs.Fmt.{digit_glyph}
 use Rattle.std.proofs.Common.{◌≡◌, ℕ, true, false, get_or, refl}
-use Rattle.wasmprinter_text.specs.declared.numbers.TheConstants.{GLYPHS}
+use Rattle.wasmprinter_text.specs.declared.integers.TheConstants.{GLYPHS}
 use Rattle.wasmprinter_text.proofs.Tables.{agrees_at, always, equal_below, equal_at}
-use Rattle.wasmprinter_text.proofs.numbers.hex_digit.Goals as goal
+use Rattle.wasmprinter_text.proofs.integers.hex_digit.Goals as goal
 
 glyph : ℕ → ℕ
 glyph d = get_or GLYPHS d 0

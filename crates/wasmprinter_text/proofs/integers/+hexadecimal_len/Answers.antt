@@ -1,6 +1,6 @@
 use Rattle.std.proofs.Common.{arith, refl, length-append, ◌/◌}
 use Rattle.wasmprinter_text.proofs.Digits.{digits-length, digits-one, digits-more}
-use Rattle.wasmprinter_text.proofs.numbers.+hexadecimal_len.Goals as goal
+use Rattle.wasmprinter_text.proofs.integers.+hexadecimal_len.Goals as goal
 
 pub returns-then-n-lt-HEXADECIMAL : goal.returns-then-n-lt-HEXADECIMAL
 returns-then-n-lt-HEXADECIMAL t c = rw (digits-one 16 c.args.n (omega arith)) refl

@@ -1,6 +1,6 @@
 use Rattle.std.proofs.Common.{arith}
 use Rattle.wasmprinter_text.proofs.Digits.{digits-one, digits-more}
-use Rattle.wasmprinter_text.proofs.numbers.+write_hexadecimal.Goals as goal
+use Rattle.wasmprinter_text.proofs.integers.+write_hexadecimal.Goals as goal
 
 pub returns-then-n-lt-HEXADECIMAL : goal.returns-then-n-lt-HEXADECIMAL
 returns-then-n-lt-HEXADECIMAL g t c = rw (digits-one 16 c.args.n (omega arith)) c.write_digit.ensures
