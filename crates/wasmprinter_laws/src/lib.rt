@@ -2,7 +2,9 @@
 //! proves. The laws contain no code of the printer: they relate the grammar, the layout and the reader of text.
 //!
 //! - `module_text_reads_back`: printed text reads back as the module that the bytes encode.
-//! - `literals_read_back`: quoted strings, floats, and lists of calls with one text.
+//! - `literals_read_back`: quoted strings and floats.
+//! - `printable_text`: which characters printed text has, and which lists of calls have one text.
+//! - `names_and_identifiers`: name sections, identifiers and labels.
 //! - `line_places`: the lines of a text and their places in the module.
 //! - `folded_trees`: folding and unfolding lists of operators.
 //! - `colors`: colors add only ANSI escape sequences.

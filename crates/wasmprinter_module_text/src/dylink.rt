@@ -10,8 +10,8 @@ use crate::symbol_flag_printing::write_flags;
 use wasmprinter_custom::{Content, Dylink, DylinkNames, ExportInfo, ImportInfo, ItemsIn, MemInfo};
 use wasmprinter_print::Output;
 use wasmprinter_text::annotations::open_annotation;
-use wasmprinter_text::lines::{close_group, write_break};
 use wasmprinter_text::integers::write_number_word;
+use wasmprinter_text::lines::{close_group, write_break};
 use wasmprinter_text::parens_and_words::{
     open_group, open_group_space, open_plain, write_close_paren, write_space,
 };
