@@ -1,4 +1,4 @@
-"""Reads files of rows. crates/check_rows/data/README.md describes their format."""
+"""Reads files of rows and of cases. crates/check_rows/data/README.md and bindings/cases.txt describe their formats."""
 
 import dataclasses
 import re
@@ -31,7 +31,7 @@ def rows_of(text):
         word, _, rest = line.partition(" ")
         if typed := re.match(r"\w*\|(.*)", line):
             found[-1].lines.append(typed[1])
-        elif word == "row":
+        elif word in ("row", "case"):
             found.append(Row(rest, b"", []))
         elif word == "operator":
             found.append(Row(line, one_body(bytes.fromhex(rest.split(": ")[0])), []))
@@ -42,4 +42,6 @@ def rows_of(text):
         elif word == "copies":
             number, _, digits = rest.partition(" ")
             found[-1].wasm += bytes.fromhex(digits) * int(number)
+        elif word == "zeros":
+            found[-1].wasm += bytes(int(rest))
     return found
