@@ -1,7 +1,9 @@
 #!/bin/sh
 # Tests the bindings in bindings/: builds the library, and checks in C, C++, Rust and Python that every case of bindings/cases.txt prints as
-# typed. In C and C++ it also checks the events of each case (events.c) and the inline functions of the header without the library (wrappers.c),
-# lets allocations fail (memory.c), prints between guard pages (guard.c), with limits (limit.c), in many threads (threads.c) and in colors (color.c).
+# typed. In C and C++ it also checks the events of each case (events.c), calls that the header refuses (misuse.c), the inline functions of the header
+# without the library (wrappers.c) and that the compiler warns of null pointers (faults.c), lets allocations fail (memory.c), prints between guard
+# pages (guard.c), with limits (limit.c), in many threads (threads.c) and in colors (color.c). tools/bindings_long.sh runs the tests in C and C++ under
+# sanitizers and valgrind.
 # Uses the machine's `cc`, `c++`, `cargo --offline` and `python3`. Fails if one of them is missing or if a case differs.
 set -eu
 cd "$(dirname "$0")/.."
@@ -15,32 +17,39 @@ work=$(mktemp -d)
 trap 'rm -rf "$work"' EXIT
 sh tools/library.sh "$work" >"$work/log" 2>&1 || { cat "$work/log"; exit 1; }
 
+cc=cc
+cxx=c++
 flags='-O2 -Wall -Wextra -Wpedantic -Werror -Iinclude'
-counted=-Wl,--wrap=malloc,--wrap=realloc,--wrap=free
 library=$work/libwasmprinter.a
+archive=$library
+made=$work
+. tools/common/c_tests.sh
 
-# tested TEST WORD..: compiles bindings/c/TEST.c in C and in C++, with these flags and files, and runs both programs. Only `test` and `events`
-# read the cases.
+# tested TEST WORD..: compiles a test in C and in C++, and runs both programs. Some read the cases.
 tested() {
-    test=$1
-    shift
-    cc -std=c99 $flags "bindings/c/$test.c" "$@" -o "$work/${test}_c"
-    c++ -std=c++17 $flags -x c++ "bindings/c/$test.c" -x none "$@" -o "$work/${test}_cpp"
-    "$work/${test}_c" bindings/cases.txt
-    "$work/${test}_cpp" bindings/cases.txt
+    compile_both "$@"
+    "$work/$1_c" bindings/cases.txt
+    "$work/$1_cpp" bindings/cases.txt
 }
 
-tested test "$library"
-tested events "$library"
-tested wrappers
-tested memory "$counted" "$library"
-tested guard "$library"
-tested limit "$library"
-tested threads -pthread "$library"
+each_test tested
 for standard in 17 20; do
-    c++ -std=c++$standard $flags -Ibindings/cpp bindings/cpp/test.cpp "$counted" "$library" -o "$work/test_hpp"
-    "$work/test_hpp" bindings/cases.txt
+    compile_hpp "$standard"
+    "$work/hpp_$standard" bindings/cases.txt
 done
+
+# warned FAULT: reports whether the C compiler warns of a fault.
+warned() {
+    ! cc -std=c99 $flags "-DFAULT=$1" -c bindings/c/faults.c -o "$work/faults.o" 2>"$work/reported" && grep -q nonnull "$work/reported"
+}
+
+cc -std=c99 $flags -DFAULT=0 -c bindings/c/faults.c -o "$work/faults.o"
+for fault in 1 2 3 4 5 6 7; do
+    warned "$fault" || { echo "bindings: the compiler does not warn of the null pointer $fault of faults.c" >&2; exit 1; }
+done
+echo "c: the compiler warns of each null pointer that the header does not allow"
+cc -std=c99 $flags -c bindings/c/texts.c -o "$work/texts.o"
+c++ -std=c++17 $flags -x c++ -c bindings/c/texts.c -o "$work/texts.o"
 cc -std=c99 $flags -c bindings/c/fuzz.c -o "$work/fuzz.o"
 cc -std=c99 $flags bindings/c/example.c "$library" -o "$work/example_c"
 c++ -std=c++17 $flags -x c++ -c bindings/c/fuzz.c -o "$work/fuzz.o"
@@ -103,8 +112,7 @@ colored >"$work/colored" <<'END'
   ({K}@custom {R}{L}"a"{R} (after code) {L}"\01"{R})
 )
 END
-cc -std=c99 $flags bindings/c/color.c "$library" -o "$work/color_c"
-c++ -std=c++17 $flags -x c++ bindings/c/color.c -x none "$library" -o "$work/color_cpp"
+compile_both color "$library"
 for color in color_c color_cpp; do
     "$work/$color" <"$work/typed.wasm" >"$work/written"
     cmp "$work/colored" "$work/written"

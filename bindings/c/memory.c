@@ -1,11 +1,12 @@
-/* memory: lets each allocation of a print fail in turn. Linked with --wrap=malloc, --wrap=realloc and --wrap=free, so that the allocations
- * of the library and of the header call the functions below. For C99 and C++. */
-#include "checked.h"
-#include "expect.h"
+/* memory FILE: lets each allocation of a print fail in turn, for every case of bindings/cases.txt with each set of options, and for modules that are
+ * typed here. Linked with --wrap=malloc, --wrap=realloc and --wrap=free, so that the allocations of the library and of the header call the functions
+ * below. Prints each difference and the counts; the status is 1 if there is a difference. For C99 and C++. */
+#include "cases.h"
 
-#include <stdlib.h>
+enum { ROOM = 1 << 14 };
 
-enum { ROOM = 4096, ALL = -1 };
+/* Larger modules are printed only with the options of their case. */
+enum { SMALL = 1 << 12 };
 
 /* Forty spaces. */
 #define INDENT "                                        "
@@ -25,40 +26,66 @@ void __wrap_free(void *old);
 }
 #endif
 
-/* The number of allocations that still succeed, or ALL. */
-static long allowed = ALL;
-static unsigned refused;
-static long live; /* the number of blocks that are not freed yet */
+/* The requested length of each block is stored before it. */
+enum { HEAD = 16 };
+
+/* Which allocations fail: none, one, or one and all after it. A block that is made shorter gives back spare room: if that fails, no call fails. */
+typedef enum Failing { NONE, ONE, ALL } Failing;
+static Failing failing = NONE;
+static unsigned allowed; /* the number of allocations that succeed before one fails */
+static unsigned refused; /* the number of allocations that failed */
+static unsigned spared;  /* the number of them that make a block shorter */
+static long live;        /* the number of blocks that are not freed yet */
 
 static bool is_allowed(void) {
-    if (allowed == 0) {
-        refused++;
-        return false;
+    if (failing == NONE || (failing == ONE && refused > 0)) {
+        return true;
     }
     if (allowed > 0) {
         allowed--;
+        return true;
     }
-    return true;
+    refused++;
+    return false;
 }
 
-/* Counts a block, if there is one. */
-static void *counted(void *block) {
+/* Stores the length of a block, and returns its bytes after the head. */
+static void *with_length(void *block, size_t size) {
+    if (block == NULL) {
+        return NULL;
+    }
+    memcpy(block, &size, sizeof size);
+    return (char *)block + HEAD;
+}
+
+static size_t length_of(void *block) {
+    size_t size;
+    memcpy(&size, (char *)block - HEAD, sizeof size);
+    return size;
+}
+
+void *__wrap_malloc(size_t size) {
+    void *block = is_allowed() ? with_length(__real_malloc(HEAD + size), size) : NULL;
     live += block != NULL;
     return block;
 }
-
-void *__wrap_malloc(size_t size) { return is_allowed() ? counted(__real_malloc(size)) : NULL; }
 
 void *__wrap_realloc(void *old, size_t size) {
     if (old == NULL) {
         return __wrap_malloc(size);
     }
-    return is_allowed() ? __real_realloc(old, size) : NULL;
+    if (!is_allowed()) {
+        spared += size < length_of(old);
+        return NULL;
+    }
+    return with_length(__real_realloc((char *)old - HEAD, HEAD + size), size);
 }
 
 void __wrap_free(void *old) {
-    live -= old != NULL;
-    __real_free(old);
+    if (old != NULL) {
+        live--;
+        __real_free((char *)old - HEAD);
+    }
 }
 
 /* A way to print to a buffer of ROOM bytes. */
@@ -87,42 +114,94 @@ static Outcome print_to_block(const Input *input, uint8_t *out) {
     return outcome;
 }
 
-/* Checks a print none of whose allocations failed. */
-static void check_printed(const char *title, Outcome outcome, const uint8_t *out, const char *text) {
-    expect(outcome.status == WASMPRINTER_OK && outcome.stored.length == strlen(text), title, "outcome");
-    expect(is_over(out, ROOM, ROOM, text, strlen(text)), title, "text");
-}
+/* A print without a failure, to a buffer that is unchanged after the text. */
+typedef struct Whole {
+    const char *title;
+    Printer print;
+    Input input;
+    Outcome outcome;
+    uint8_t out[ROOM];
+} Whole;
 
-/* Checks a print one of whose allocations failed. It leaves the buffer unchanged or, if operators are folded, with a prefix of the text. */
-static void check_refused(const char *title, Outcome outcome, const uint8_t *out, const char *text, bool is_folded) {
-    const Outcome memory = {WASMPRINTER_MEMORY, {0, 0, 0}};
-    expect(is_same(outcome, memory), title, "error");
-    expect(is_prefix(out, ROOM, is_folded ? ROOM : 0, text, strlen(text)), title, "buffer after an error");
-}
-
-/* Prints with every number of allowed allocations, until none is refused. Each failure must be reported, and every block freed. Returns the
- * number of failures. */
-static unsigned check(const char *title, Printer print, const Input *input, const char *text, unsigned at_least) {
+/* Prints while some allocations fail. Each failure must be reported, and every block freed. If the first allocation of a block for the text fails
+ * alone, the text is measured and a block is allocated again. Returns whether an allocation failed. */
+static bool check_failure(const Whole *whole, Failing way, unsigned successes) {
     static uint8_t out[ROOM];
-    unsigned failures = 0;
-    for (;; failures++) {
-        const long before = live;
-        memset(out, GUARD, sizeof out);
-        refused = 0;
-        allowed = (long)failures;
-        Outcome outcome = print(input, out);
-        allowed = ALL;
-        expect(live == before, title, "number of blocks that are not freed");
-        if (refused == 0) {
-            check_printed(title, outcome, out, text);
-            expect(failures >= at_least, title, "number of failures");
-            return failures;
-        }
-        check_refused(title, outcome, out, text, (input->options.flags & WASMPRINTER_FOLD) != 0);
+    const Outcome memory = {WASMPRINTER_MEMORY, {0, 0, 0}};
+    const long before = live;
+    const bool is_measured = whole->print == print_to_block && way == ONE && successes == 0;
+    memset(out, GUARD, sizeof out);
+    refused = spared = 0;
+    allowed = successes;
+    failing = way;
+    Outcome outcome = whole->print(&whole->input, out);
+    failing = NONE;
+    expect(live == before, whole->title, "number of blocks that are not freed");
+    if (refused == spared || is_measured) {
+        expect(is_same(outcome, whole->outcome) && memcmp(out, whole->out, ROOM) == 0, whole->title, "outcome or text without a failure");
+    } else {
+        const size_t most = whole->input.options.flags & WASMPRINTER_FOLD ? ROOM : 0;
+        expect(is_same(outcome, memory), whole->title, "outcome of a failure");
+        expect(is_prefix(out, ROOM, most, whole->out, ROOM), whole->title, "buffer after a failure");
+    }
+    return refused > 0;
+}
+
+/* Prints without a failure, and then lets each allocation fail, alone and with all after it. Returns the number of allocations. */
+static unsigned check_failures(Whole *whole) {
+    unsigned allocations = 0;
+    memset(whole->out, GUARD, ROOM);
+    whole->outcome = whole->print(&whole->input, whole->out);
+    expect(whole->outcome.stored.length <= ROOM, whole->title, "length of the text");
+    while (check_failure(whole, ALL, allocations)) {
+        check_failure(whole, ONE, allocations);
+        allocations++;
+    }
+    return allocations;
+}
+
+/* ---- Cases */
+
+static unsigned failures;
+
+static void check_flags(const Case *test_case, uint32_t flags) {
+    static const Printer printers[] = {print_to_buffer, print_with_lines, print_to_block};
+    static Whole whole;
+    whole.title = test_case->title;
+    whole.input = test_case->input;
+    whole.input.options.flags = flags;
+    for (size_t i = 0; i < sizeof printers / sizeof printers[0]; i++) {
+        whole.print = printers[i];
+        failures += check_failures(&whole);
     }
 }
 
-int main(void) {
+static void check_case(Case *test_case) {
+    const bool is_small = test_case->input.wasm.len <= SMALL;
+    for (uint32_t flags = 0; is_small && flags <= ALL_OPTIONS; flags++) {
+        check_flags(test_case, flags);
+    }
+    if (!is_small) {
+        check_flags(test_case, test_case->input.options.flags);
+    }
+}
+
+/* ---- Typed texts */
+
+/* Checks the text of a module, and that a print of it makes at least this many allocations. */
+static void check_typed(const char *title, Printer print, const Input *input, const char *text, unsigned at_least) {
+    static Whole whole;
+    whole.title = title;
+    whole.print = print;
+    whole.input = *input;
+    const unsigned allocations = check_failures(&whole);
+    expect(allocations >= at_least, title, "number of failures");
+    expect(whole.outcome.status == WASMPRINTER_OK && whole.outcome.stored.length == strlen(text), title, "outcome");
+    expect(is_over(whole.out, ROOM, ROOM, text, strlen(text)), title, "text");
+    failures += allocations;
+}
+
+static void check_typed_texts(void) {
     /* Each module ends with the zero byte at the end of its string. */
     static const char empty[] = "\0asm\1\0\0";
     static const char typed[] = "\0asm\1\0\0\0\1\4\1\x60\0";
@@ -130,13 +209,18 @@ int main(void) {
     const Input nothing = {{empty, sizeof empty}, {0, {INDENT, sizeof INDENT - 1}, 0}};
     const Input flat = {{typed, sizeof typed}, {0, {INDENT, sizeof INDENT - 1}, 0}};
     const Input folded = {{typed, sizeof typed}, {WASMPRINTER_FOLD, {INDENT, sizeof INDENT - 1}, 0}};
-    unsigned failures = check("a long indent and an empty module", print_to_buffer, &nothing, "(module)\n", 1);
-    failures += check("a long indent and a type", print_to_buffer, &flat, text, 2);
-    failures += check("the same with lines", print_with_lines, &flat, text, 2);
-    failures += check("the same with events", print_with_events, &flat, text, 2);
-    failures += check("the same, folded", print_to_buffer, &folded, text, 2);
-    failures += check("the same, allocated", print_to_block, &flat, text, 3);
-    failures += check("the same, folded and allocated", print_to_block, &folded, text, 3);
-    printf(LANGUAGE ": %u failed allocations, %u differences\n", failures, failed);
+    check_typed("a long indent and an empty module", print_to_buffer, &nothing, "(module)\n", 1);
+    check_typed("a long indent and a type", print_to_buffer, &flat, text, 2);
+    check_typed("the same with lines", print_with_lines, &flat, text, 2);
+    check_typed("the same with events", print_with_events, &flat, text, 2);
+    check_typed("the same, folded", print_to_buffer, &folded, text, 2);
+    check_typed("the same, allocated", print_to_block, &flat, text, 3);
+    check_typed("the same, folded and allocated", print_to_block, &folded, text, 3);
+}
+
+int main(int argc, char **argv) {
+    const unsigned cases = check_file(argc == 2 ? argv[1] : NULL, check_case);
+    check_typed_texts();
+    printf(LANGUAGE ": %u failed allocations in %u cases, %u differences\n", failures, cases, failed);
     return failed == 0 ? 0 : 1;
 }

@@ -41,17 +41,16 @@ static uint8_t *read_file(const char *path, size_t *len) {
     return bytes;
 }
 
-/* Writes a text with its events, or a message. */
-static void write_result(WasmprinterStatus status, const char *text, size_t length, const WasmprinterEvent *events, size_t count) {
-    printf("%u %zu %zu\n", (unsigned)status, length, count);
+/* Writes a text or a message, to which `count` events are added. */
+static void write_result(WasmprinterStatus status, const char *text, size_t length, size_t count) {
+    printf("%u %lu %lu\n", (unsigned)status, (unsigned long)length, (unsigned long)count);
     fwrite(text, 1, length, stdout);
-    fwrite(events, sizeof *events, count, stdout);
 }
 
 static void write_error(Outcome outcome) {
     char message[WASMPRINTER_ERROR_TEXT_LEN + 1];
     size_t length = wasmprinter_error_text(outcome.status, outcome.stored.detail, wasmprinter_buffer(message, sizeof message));
-    write_result(outcome.status, message, length, NULL, 0);
+    write_result(outcome.status, message, length, 0);
 }
 
 /* Measures the text of a module with some options, prints it, and writes the result. */
@@ -67,7 +66,8 @@ static void print(const Input *input) {
     if (!is_same(print_lines(input, text, length, events, count), measured)) {
         stop("two calls return different results");
     }
-    write_result(measured.status, text, length, events, count);
+    write_result(measured.status, text, length, count);
+    fwrite(events, sizeof *events, count, stdout);
     free(events);
     free(text);
 }
