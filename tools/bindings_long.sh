@@ -16,8 +16,8 @@
 #
 # The library itself is not compiled with sanitizers: they see its calls of the C library, and valgrind sees each of its accesses to memory.
 #
-# MODULES (2000), SEED (1) and JOBS (the number of processors) are variables for the last two. Uses clang with Debian's libclang-rt-14-dev, valgrind and
-# python3. Without the minutes of fuzzing it takes about half an hour. The status is 1 if a part fails. The other parts are run nevertheless.
+# Variables: MODULES (2000), SEED (1) and JOBS (the number of processors) for the last two parts, and PARTS for the names of the parts that are run, by
+# default all. Uses clang with Debian's libclang-rt-14-dev, valgrind and python3. The status is 1 if a part fails; the other parts are run nevertheless.
 set -eu
 if [ $# -lt 1 ] || [ $# -gt 2 ]; then
     echo 'usage: tools/bindings_long.sh BUILT [MINUTES]' >&2
@@ -44,7 +44,7 @@ export ASAN_OPTIONS=detect_leaks=1 "UBSAN_OPTIONS=print_stacktrace=1"
 cc=clang
 cxx=clang++
 archive=$built/libwasmprinter.a
-warnings='-g -Wall -Wextra -Wpedantic -Werror -Iinclude'
+warnings='-gdwarf-4 -Wall -Wextra -Wpedantic -Werror -Iinclude'
 sanitized='-O1 -fno-omit-frame-pointer -fno-sanitize-recover=all -fsanitize=address,undefined'
 memcheck="valgrind -q --error-exitcode=$found --leak-check=full --show-leak-kinds=all --errors-for-leak-kinds=all --soname-synonyms=somalloc=nouserintercepts"
 . tools/common/c_tests.sh
@@ -84,12 +84,11 @@ compile_all() {
     clang -std=c99 $flags '-DFAULT=argc - 1' bindings/c/faults.c "$library" -o "$made/faults"
 }
 
-# run_tests PART WORD..: runs each test with these words before it.
+# run_tests PART WORD..: runs each test in the folder `made` with these words before it.
 run_tests() {
     part=$1
     shift
-    each_test name_test >"$work/tests"
-    for test in $(cat "$work/tests") hpp_17 hpp_20; do
+    for test in $(each_test name_test) hpp_17 hpp_20; do
         expect "$part" "$@" "$made/$test" bindings/cases.txt
     done
 }
@@ -99,7 +98,8 @@ name_test() {
     echo "${1}_c ${1}_cpp"
 }
 
-sanitizers() {
+part_sanitizers() {
+    made=$work/sanitized
     start
     run_tests sanitizers
     expect sanitizers "$made/texts_c" "$work"/cases/*
@@ -117,7 +117,8 @@ by_program() {
     done
 }
 
-memory() {
+part_valgrind() {
+    made=$work/plain
     start
     run_tests valgrind $memcheck
     expect valgrind $memcheck "$made/texts_c" "$work"/cases/*
@@ -128,20 +129,20 @@ memory() {
     report valgrind
 }
 
-races() {
+part_helgrind() {
     start
-    expect helgrind valgrind -q "--error-exitcode=$found" --tool=helgrind "$made/threads_c"
+    expect helgrind valgrind -q "--error-exitcode=$found" --tool=helgrind "$work/plain/threads_c"
     report helgrind
 }
 
 # found_fault FAULT MESSAGE COMMAND..: runs a program with as many words as the number of the fault. The tool has to end it with a message.
 found_fault() {
-    fault=$1
+    words=$1
     message=$2
     shift 2
-    while [ "$fault" -gt 0 ]; do
+    while [ "$words" -gt 0 ]; do
         set -- "$@" x
-        fault=$((fault - 1))
+        words=$((words - 1))
     done
     if "$@" >"$work/log" 2>&1 || ! grep -q "$message" "$work/log"; then
         tail -n 20 "$work/log"
@@ -150,7 +151,7 @@ found_fault() {
     runs=$((runs + 1))
 }
 
-faults() {
+part_faults() {
     start
     for fault in 1 2 3 4 5 6 7; do
         found_fault "$fault" 'null pointer passed as argument' "$work/sanitized/faults"
@@ -170,7 +171,7 @@ fuzz() {
         -print_final_stats=1 "-artifact_prefix=$built/fuzz-" "$work/corpus$1" "$work/inputs" >"$work/fuzz$1.log" 2>&1
 }
 
-fuzzing() {
+part_fuzzing() {
     clang -std=c99 $warnings -O1 -fno-sanitize-recover=all -fsanitize=fuzzer,address,undefined bindings/c/fuzz.c "$archive" -o "$work/fuzz"
     python3 -B tools/fuzz.py inputs "$work/inputs" --seed "$seed" --modules "$modules" >"$work/log"
     running=''
@@ -187,7 +188,7 @@ fuzzing() {
         awk -v minutes="$minutes" -v jobs="$jobs" '{ sum += $1 } END { printf "fuzzing: %d inputs, %d processes, %d minutes\n", sum, jobs, minutes }'
 }
 
-texts() {
+part_texts() {
     python3 -B tools/fuzz.py self-test || fail 'texts: tools/fuzz.py self-test failed'
     python3 -B tools/fuzz.py compare "$work/sanitized/texts_c" "$built/printwasm" --seed "$seed" --modules "$modules" --jobs "$jobs" ||
         fail 'texts: tools/fuzz.py compare failed'
@@ -196,12 +197,9 @@ texts() {
 python3 -B tools/fuzz.py cases "$work/cases" >"$work/log"
 made=$work/sanitized library=$archive flags="$warnings $sanitized"
 compile_all
-sanitizers
 made=$work/plain library=$built/libwasmprinter.so.1 flags="$warnings -O1 -Wl,-rpath,$built"
 compile_all
-memory
-races
-faults
-fuzzing
-texts
+for part in ${PARTS:-sanitizers valgrind helgrind faults fuzzing texts}; do
+    "part_$part"
+done
 [ "$failed" = 0 ]

@@ -123,19 +123,19 @@ typedef struct Whole {
     uint8_t out[ROOM];
 } Whole;
 
-/* Prints while some allocations fail. Each failure must be reported, and every block freed. If the first allocation of a block for the text fails
- * alone, the text is measured and a block is allocated again. Returns whether an allocation failed. */
+/* Prints while some allocations fail. Each failure must be reported, and every block freed. If only the first allocation of a block for the text
+ * fails, the text is measured, and a block is allocated again. Returns whether an allocation failed. */
 static bool check_failure(const Whole *whole, Failing way, unsigned successes) {
     static uint8_t out[ROOM];
     const Outcome memory = {WASMPRINTER_MEMORY, {0, 0, 0}};
     const long before = live;
-    const bool is_measured = whole->print == print_to_block && way == ONE && successes == 0;
     memset(out, GUARD, sizeof out);
     refused = spared = 0;
     allowed = successes;
     failing = way;
     Outcome outcome = whole->print(&whole->input, out);
     failing = NONE;
+    const bool is_measured = whole->print == print_to_block && successes == 0 && refused == 1;
     expect(live == before, whole->title, "number of blocks that are not freed");
     if (refused == spared || is_measured) {
         expect(is_same(outcome, whole->outcome) && memcmp(out, whole->out, ROOM) == 0, whole->title, "outcome or text without a failure");
