@@ -4,8 +4,8 @@
 tools/fuzz.py compare TEXTS PRINTWASM [--modules N] [--seed S] [--jobs J]
     Makes N modules (1,000 by default). Prints each with all sets of options by TEXTS, which is bindings/c/texts.c, and by the program, and compares
     texts, messages and statuses. The options are those of the program's usage line, in the order of the flags in include/wasmprinter.h. With
-    `--color` the events that the library stores must give the colors of the program. Prints each difference, and the numbers of statuses. The status
-    is 1 if there is a difference.
+    `--color` the events that the library stores must give the program's colors, and have the start of each line, with the place that the line shows.
+    Prints each difference, and the numbers of statuses. The status is 1 if there is a difference.
 tools/fuzz.py inputs FOLDER [--modules N] [--seed S]
     Writes inputs for bindings/c/fuzz.c: the modules of all rows and shapes, and N others, each after two bytes that choose options and indent.
 tools/fuzz.py cases FOLDER
@@ -22,10 +22,12 @@ makes none of these bytes. A module depends only on the seed (1 by default) and 
 import argparse
 import collections
 import concurrent.futures
+import dataclasses
 import functools
 import os
 import pathlib
 import random
+import re
 import struct
 import subprocess
 import sys
@@ -50,7 +52,9 @@ CHANGES = (1, 1, 2, 3, 5)
 CUT_OFF = 0.02  # of the modules
 AT_ONCE = 20  # modules
 SHOWN = 300  # bytes of a module
-OK = 0
+OK, OFFSETS, EVENTS = 0, 1, 16
+LINE_AT_PLACE = 1  # the kind of a line with a place; that of a line without one is 0
+PLACE_WIDTH = 11  # of the place at the start of a line, or of the spaces instead
 EVENT = struct.Struct("<QQI4x")
 # The escape sequences of the kinds of events
 SEQUENCES = {2: "\x1b[0m\x1b[35m", 3: "\x1b[0m\x1b[31m", 4: "\x1b[0m\x1b[1m\x1b[38;5;11m", 5: "\x1b[0m\x1b[1m\x1b[38;5;10m", 6: "\x1b[0m\x1b[36m", 7: "\x1b[0m"}
@@ -96,8 +100,43 @@ def made(seed, number):
     return wasm[: choices.randrange(len(wasm) + 1)] if choices.random() < CUT_OFF else wasm
 
 
-def printed_by_library(texts, paths):
-    """Returns the status, the text or message, and the events of each file and each set of options, in order."""
+@dataclasses.dataclass
+class Printed:
+    """What the library printed with some flags: the status, the text or the message, and the events, each with its start, place and kind."""
+
+    flags: int
+    status: int
+    text: bytes
+    events: list[tuple[int, int, int]]
+
+    def colored(self):
+        """Returns the text with the escape sequence of each event at its start."""
+        found, written = [], 0
+        for start, _, kind in self.events:
+            found += [self.text[written:start], SEQUENCES.get(kind, "").encode()]
+            written = start
+        return b"".join([*found, self.text[written:]])
+
+    def has_lines(self):
+        """Returns whether the events have the starts of all lines and, of a text with offsets, the places that the lines show."""
+        lines = [event for event in self.events if event[2] <= LINE_AT_PLACE]
+        starts = [0, *(match.end() for match in re.finditer(b"\n", self.text[:-1]))]
+        shown = ((start, f"(;@{place:<6x};)" if kind == LINE_AT_PLACE else " " * PLACE_WIDTH) for start, place, kind in lines[1:])
+        are_shown = not self.flags & OFFSETS or all(self.text.startswith(prefix.encode(), start) for start, prefix in shown)
+        return are_shown and [start for start, _, _ in lines] == starts
+
+    def difference(self, program, options, path):
+        """Returns in which way the program prints a file differently, or `None`."""
+        if self.status == OK and self.flags & EVENTS and not self.has_lines():
+            return "lines"
+        ran = subprocess.run([program, *options, path], capture_output=True, timeout=SECONDS, check=False)
+        expected = (0, self.colored(), b"") if self.status == OK else (1, b"", b"error: " + self.text + b"\n")
+        found = (ran.returncode, ran.stdout, ran.stderr)
+        return next((what for what, a, b in zip(("status", "text", "message"), expected, found) if a != b), None)
+
+
+def printed_by_library(texts, paths, sets):
+    """Prints each file with each set of options, and returns the results in order."""
     out = subprocess.run([texts, *paths], stdout=subprocess.PIPE, timeout=SECONDS * len(paths), check=True).stdout
     found, at = [], 0
     while at < len(out):
@@ -105,26 +144,10 @@ def printed_by_library(texts, paths):
         status, length, count = map(int, out[at:end].split())
         text_end = end + 1 + length
         at = text_end + count * EVENT.size
-        found.append((status, out[end + 1 : text_end], list(EVENT.iter_unpack(out[text_end:at]))))
+        found.append(Printed(len(found) % sets, status, out[end + 1 : text_end], list(EVENT.iter_unpack(out[text_end:at]))))
+    if len(found) != len(paths) * sets:
+        raise SystemExit(f"fuzz: the library printed {len(found)} times, and not {len(paths)} modules with {sets} sets of options")
     return found
-
-
-def colored(text, events):
-    """Returns a text with the escape sequence of each event at its start."""
-    found, written = [], 0
-    for start, _, kind in events:
-        found += [text[written:start], SEQUENCES.get(kind, "").encode()]
-        written = start
-    return b"".join([*found, text[written:]])
-
-
-def difference(program, path, options, printed):
-    """Returns in which way the program prints a file differently than the library, or `None`."""
-    status, text, events = printed
-    ran = subprocess.run([program, *options, path], capture_output=True, timeout=SECONDS, check=False)
-    expected = (0, colored(text, events), b"") if status == OK else (1, b"", b"error: " + text + b"\n")
-    found = (ran.returncode, ran.stdout, ran.stderr)
-    return next((what for what, a, b in zip(("status", "text", "message"), expected, found) if a != b), None)
 
 
 def compare_modules(texts, program, seed, numbers):
@@ -135,13 +158,10 @@ def compare_modules(texts, program, seed, numbers):
         paths = [os.path.join(folder, str(number)) for number in numbers]
         for number, path in zip(numbers, paths):
             pathlib.Path(path).write_bytes(made(seed, number))
-        printed = printed_by_library(texts, paths)
-        if len(printed) != len(paths) * len(sets):
-            raise SystemExit(f"fuzz: the library printed {len(printed)} times, and not {len(paths)} modules with {len(sets)} sets of options")
-        for at, result in enumerate(printed):
-            path, chosen = paths[at // len(sets)], sets[at % len(sets)]
-            statuses[result[0]] += 1
-            if what := difference(program, path, chosen, result):
+        for at, printed in enumerate(printed_by_library(texts, paths, len(sets))):
+            path, chosen = paths[at // len(sets)], sets[printed.flags]
+            statuses[printed.status] += 1
+            if what := printed.difference(program, chosen, path):
                 wasm = pathlib.Path(path).read_bytes()
                 differences.append(f"module {os.path.basename(path)} of seed {seed}, options {chosen}: other {what}: {wasm[:SHOWN].hex(' ')}")
     return statuses, differences
@@ -197,10 +217,13 @@ def self_test(_):
     return 1 if wrong or not trees else 0
 
 
+COMMANDS = {"compare": (compare, ["texts", "program"]), "inputs": (inputs, ["folder"]), "cases": (cases, ["folder"]), "self-test": (self_test, [])}
+
+
 def main():
     parser = argparse.ArgumentParser(usage="see the head of tools/fuzz.py")
     commands = parser.add_subparsers(required=True)
-    for name, run, paths in (("compare", compare, ["texts", "program"]), ("inputs", inputs, ["folder"]), ("cases", cases, ["folder"]), ("self-test", self_test, [])):
+    for name, (run, paths) in COMMANDS.items():
         command = commands.add_parser(name)
         command.set_defaults(run=run)
         for path in paths:

@@ -13,6 +13,9 @@ enum { GUARD = 0xa5 };
 /* The flags with every known option. Each number up to it is a set of known options. */
 enum { ALL_OPTIONS = WASMPRINTER_OFFSETS | WASMPRINTER_SKELETON | WASMPRINTER_NAME_UNNAMED | WASMPRINTER_FOLD | WASMPRINTER_EVENTS };
 
+/* The bits of the flags, and the first of them that chooses no option. */
+enum { FIRST_UNKNOWN_BIT = 5, BITS = 32 };
+
 /* The input of the printing functions. */
 typedef struct Input {
     WasmprinterBytes wasm;

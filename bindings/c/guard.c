@@ -1,16 +1,14 @@
-/* guard: prints every prefix of a module, with every size of buffer, of table and of limit. Each object that a call is given is next to a page that
- * can't be accessed, once before and once after it: a read or write outside of the objects ends the program with a signal. For Linux, in
- * C99 and C++. */
+/* guard FILE: prints every prefix of a module, with every size of buffer, of table and of limit, and every prefix of the modules of
+ * bindings/cases.txt, those that are printed with every size of buffer and of table. Each object that a call is given is next to a page that can't be
+ * accessed, once before and once after it: a read or write outside of the objects ends the program with a signal. For Linux, in C99 and C++. */
 #define _DEFAULT_SOURCE /* for MAP_ANONYMOUS */
 
-#include "checked.h"
-#include "expect.h"
+#include "cases.h"
 
-#include <stdlib.h>
 #include <sys/mman.h>
 #include <unistd.h>
 
-enum { MOST_LINES = 7, STATUSES = WASMPRINTER_UNKNOWN_OPTION + 2 };
+enum { MODULE_LINES = 7, STATUSES = WASMPRINTER_UNKNOWN_OPTION + 2 };
 
 /* A module with a type, a function, an export and a body, as in bindings/cases.txt. */
 static const uint8_t MODULE[] = {
@@ -26,7 +24,7 @@ typedef struct Prefix {
     size_t len;
     const char *text;
     size_t count;
-    uint64_t places[MOST_LINES];
+    uint64_t places[MODULE_LINES];
 } Prefix;
 
 /* The prefixes that are modules. Any other prefix is malformed. */
@@ -46,7 +44,7 @@ static const Prefix PRINTED[] = {
      "    local.get 0\n"
      "  )\n"
      ")\n",
-     MOST_LINES,
+     MODULE_LINES,
      {0, 0xb, 0x17, 0x1f, 0x20, 0x22, 0x23}},
 };
 
@@ -195,7 +193,7 @@ static void check_prefix(size_t len, End end) {
     Objects placed = objects(MODULE, len, "  ", 2, end);
     bool is_right = true;
     for (size_t out_len = 0; is_right && out_len <= most; out_len++) {
-        for (size_t lines_len = 0; is_right && lines_len <= MOST_LINES; lines_len++) {
+        for (size_t lines_len = 0; is_right && lines_len <= MODULE_LINES; lines_len++) {
             Outcome outcome = print_objects(&placed, out_len, lines_len);
             is_right = prefix != NULL ? check_printed(&placed, outcome, prefix) : check_malformed(&placed, outcome);
         }
@@ -221,7 +219,7 @@ static void check_limits(size_t len, End end) {
     bool is_right = true;
     for (placed.limit = 0; is_right && placed.limit <= most; placed.limit++) {
         for (size_t out_len = 0; is_right && out_len <= most; out_len++) {
-            Outcome outcome = print_objects(&placed, out_len, out_len % 2 == 0 ? 0 : MOST_LINES);
+            Outcome outcome = print_objects(&placed, out_len, out_len % 2 == 0 ? 0 : MODULE_LINES);
             is_right = prefix != NULL ? check_limited(&placed, outcome, prefix) : check_malformed(&placed, outcome);
         }
     }
@@ -263,10 +261,10 @@ static bool is_whole(size_t len) {
 static void check_indent(size_t len, End end) {
     Objects placed = objects(MODULE, sizeof MODULE, INDENT, len, end);
     WasmprinterStatus status = is_whole(len) ? WASMPRINTER_OK : WASMPRINTER_INVALID_INDENT;
-    expect(print_objects(&placed, pages.size, MOST_LINES).status == status, "guard", "status with an indent");
+    expect(print_objects(&placed, pages.size, MODULE_LINES).status == status, "guard", "status with an indent");
     placed.limit = 0;
     status = is_whole(len) ? WASMPRINTER_TOO_LONG : WASMPRINTER_INVALID_INDENT;
-    expect(print_objects(&placed, pages.size, MOST_LINES).status == status, "guard", "status with an indent and a limit");
+    expect(print_objects(&placed, pages.size, MODULE_LINES).status == status, "guard", "status with an indent and a limit");
 }
 
 /* Writes the description of a status to every size of buffer. */
@@ -295,10 +293,43 @@ static void check_end(End end) {
     }
 }
 
-int main(void) {
+/* Prints to a buffer and a table of these sizes, and expects the outcome that the text has without them. */
+static bool check_room(const char *title, Objects *placed, size_t out_len, size_t lines_len, Outcome whole) {
+    return expect(is_same(print_objects(placed, out_len, lines_len), whole), title, "outcome between guard pages");
+}
+
+/* Prints with every size of buffer and of table. After an error, only with no room and with more than a text of this module needs. */
+static void check_rooms(const char *title, Objects *placed) {
+    const Outcome whole = print_objects(placed, 0, 0);
+    const size_t length = whole.stored.length, count = whole.stored.count;
+    bool is_right = whole.status == WASMPRINTER_OK || check_room(title, placed, pages.size, MOST_LINES, whole);
+    for (size_t out_len = 0; is_right && out_len <= length; out_len++) {
+        is_right = check_room(title, placed, out_len, count, whole);
+    }
+    for (size_t lines_len = 0; is_right && lines_len <= count; lines_len++) {
+        is_right = check_room(title, placed, length, lines_len, whole);
+    }
+}
+
+/* Prints every prefix of the module of a case, if it fits into a page. */
+static void check_case(Case *test_case) {
+    const WasmprinterOptions *options = &test_case->input.options;
+    const WasmprinterBytes indent = options->indent.ptr != NULL ? options->indent : wasmprinter_bytes("  ", 2);
+    const size_t most = test_case->input.wasm.len;
+    for (size_t len = 0; most <= pages.size && len <= most; len++) {
+        for (int end = FIRST; end <= LAST; end++) {
+            Objects placed = objects(wasm, len, indent.ptr, indent.len, (End)end);
+            placed.flags = options->flags;
+            check_rooms(test_case->title, &placed);
+        }
+    }
+}
+
+int main(int argc, char **argv) {
     make_pages();
     check_end(FIRST);
     check_end(LAST);
-    printf(LANGUAGE ": %u prints between guard pages, %u differences\n", prints, failed);
+    const unsigned cases = check_file(argc == 2 ? argv[1] : NULL, check_case);
+    printf(LANGUAGE ": %u prints between guard pages, of %u cases and a module, %u differences\n", prints, cases, failed);
     return failed == 0 ? 0 : 1;
 }

@@ -5,9 +5,6 @@
  * to more than the text (test.c, limit.c). What the header leaves undefined can't be tested: objects that overlap, invalid pointers, signal handlers. */
 #include "cases.h"
 
-/* The bits of the flags that choose no option. */
-enum { FIRST_UNKNOWN_BIT = 5, BITS = 32 };
-
 /* The objects that calls write to. */
 static uint8_t out[TEXT_ROOM];
 static WasmprinterEvent events[MOST_LINES];

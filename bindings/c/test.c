@@ -4,9 +4,6 @@
 
 enum { ERROR_ROOM = WASMPRINTER_ERROR_TEXT_LEN + 2 };
 
-/* The bits of the flags that choose no option. */
-enum { FIRST_UNKNOWN_BIT = 5, BITS = 32 };
-
 /* The block that wasmprinter_print_alloc printed to. Each case uses that of the case before. */
 static WasmprinterBuffer block;
 
