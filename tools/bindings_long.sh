@@ -39,15 +39,20 @@ seed=${SEED:-1}
 jobs=${JOBS:-$(nproc)}
 failed=0
 found=99 # the status of a program in which a tool found an error
-export ASAN_OPTIONS=detect_leaks=1 "UBSAN_OPTIONS=print_stacktrace=1"
+export ASAN_OPTIONS=detect_leaks=1 UBSAN_OPTIONS=print_stacktrace=1
 
-cc=clang
-cxx=clang++
+# shellcheck disable=SC2034 # tools/common/c_tests.sh uses these
+cc=clang cxx=clang++
 archive=$built/libwasmprinter.a
-warnings='-gdwarf-4 -Wall -Wextra -Wpedantic -Werror -Iinclude'
-sanitized='-O1 -fno-omit-frame-pointer -fno-sanitize-recover=all -fsanitize=address,undefined'
-memcheck="valgrind -q --error-exitcode=$found --leak-check=full --show-leak-kinds=all --errors-for-leak-kinds=all --soname-synonyms=somalloc=nouserintercepts"
+basic='-O1 -gdwarf-4 -Wall -Wextra -Wpedantic -Werror -Iinclude'
+sanitized='-fno-omit-frame-pointer -fno-sanitize-recover=all -fsanitize=address,undefined'
 . tools/common/c_tests.sh
+
+# memcheck COMMAND..: runs a program under valgrind. Its own functions in place of malloc, realloc, free and operator new are kept.
+memcheck() {
+    valgrind -q "--error-exitcode=$found" --leak-check=full --show-leak-kinds=all --errors-for-leak-kinds=all \
+        --soname-synonyms=somalloc=nouserintercepts "$@"
+}
 
 # fail WORD..: prints a message, and counts it.
 fail() {
@@ -81,6 +86,7 @@ compile_all() {
     compile_hpp 17
     compile_hpp 20
     compile_both texts "$library"
+    # shellcheck disable=SC2086 # each flag is a word
     clang -std=c99 $flags '-DFAULT=argc - 1' bindings/c/faults.c "$library" -o "$made/faults"
 }
 
@@ -111,7 +117,7 @@ part_sanitizers() {
 by_program() {
     for case in "$work"/cases/*; do
         status=0
-        $memcheck "$built/printwasm" "$@" "$case" >"$work/log" 2>&1 || status=$?
+        memcheck "$built/printwasm" "$@" "$case" >"$work/log" 2>&1 || status=$?
         [ "$status" -le 1 ] || { tail -n 50 "$work/log"; fail "valgrind: printwasm $* $case: status $status"; }
         runs=$((runs + 1))
     done
@@ -120,9 +126,9 @@ by_program() {
 part_valgrind() {
     made=$work/plain
     start
-    run_tests valgrind $memcheck
-    expect valgrind $memcheck "$made/texts_c" "$work"/cases/*
-    expect valgrind $memcheck "$made/texts_cpp" "$work"/cases/*
+    run_tests valgrind memcheck
+    expect valgrind memcheck "$made/texts_c" "$work"/cases/*
+    expect valgrind memcheck "$made/texts_cpp" "$work"/cases/*
     by_program
     by_program --fold
     by_program --offsets --name-unnamed --color
@@ -157,10 +163,10 @@ part_faults() {
         found_fault "$fault" 'null pointer passed as argument' "$work/sanitized/faults"
     done
     found_fault 8 LeakSanitizer "$work/sanitized/faults"
-    found_fault 8 'definitely lost' $memcheck "$work/plain/faults"
-    found_fault 9 'Invalid write' $memcheck "$work/plain/faults"
+    found_fault 8 'definitely lost' memcheck "$work/plain/faults"
+    found_fault 9 'Invalid write' memcheck "$work/plain/faults"
     expect faults "$work/sanitized/faults"
-    expect faults $memcheck "$work/plain/faults"
+    expect faults memcheck "$work/plain/faults"
     report faults
 }
 
@@ -172,7 +178,8 @@ fuzz() {
 }
 
 part_fuzzing() {
-    clang -std=c99 $warnings -O1 -fno-sanitize-recover=all -fsanitize=fuzzer,address,undefined bindings/c/fuzz.c "$archive" -o "$work/fuzz"
+    # shellcheck disable=SC2086 # each flag is a word
+    clang -std=c99 $basic -fno-sanitize-recover=all -fsanitize=fuzzer,address,undefined bindings/c/fuzz.c "$archive" -o "$work/fuzz"
     python3 -B tools/fuzz.py inputs "$work/inputs" --seed "$seed" --modules "$modules" >"$work/log"
     running=''
     for number in $(seq "$jobs"); do
@@ -195,9 +202,9 @@ part_texts() {
 }
 
 python3 -B tools/fuzz.py cases "$work/cases" >"$work/log"
-made=$work/sanitized library=$archive flags="$warnings $sanitized"
+made=$work/sanitized library=$archive flags="$basic $sanitized"
 compile_all
-made=$work/plain library=$built/libwasmprinter.so.1 flags="$warnings -O1 -Wl,-rpath,$built"
+made=$work/plain library=$built/libwasmprinter.so.1 flags="$basic -Wl,-rpath,$built"
 compile_all
 for part in ${PARTS:-sanitizers valgrind helgrind faults fuzzing texts}; do
     "part_$part"

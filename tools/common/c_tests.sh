@@ -5,6 +5,7 @@
 #   library    the library for C, static or shared
 #   archive    the static library
 #   made       the folder for the programs
+# shellcheck shell=sh disable=SC2086,SC2154 # each flag is a word
 counted=-Wl,--wrap=malloc,--wrap=realloc,--wrap=free
 
 # each_test ACTION: calls `ACTION TEST WORD..` for each test: the name of its file in bindings/c, and the flags and files that it is linked with.
