@@ -4,8 +4,9 @@
 tools/fuzz.py compare TEXTS PRINTWASM [--modules N] [--seed S] [--jobs J]
     Makes N modules (1,000 by default). Prints each with all sets of options by TEXTS, which is bindings/c/texts.c, and by the program, and compares
     texts, messages and statuses. The options are those of the program's usage line, in the order of the flags in include/wasmprinter.h. With
-    `--color` the events that the library stores must give the program's colors, and have the start of each line, with the place that the line shows.
-    Prints each difference, and the numbers of statuses. The status is 1 if there is a difference.
+    `--color` the events that the library stores must have the start of each line, with the place that the line shows, and give the program's colors.
+    With `--fold` too, colors are not compared: the library has no events in folded operators. Prints each difference, and the numbers of statuses. The
+    status is 1 if there is a difference.
 tools/fuzz.py inputs FOLDER [--modules N] [--seed S]
     Writes inputs for bindings/c/fuzz.c: the modules of all rows and shapes, and N others, each after two bytes that choose options and indent.
 tools/fuzz.py cases FOLDER
@@ -52,7 +53,8 @@ CHANGES = (1, 1, 2, 3, 5)
 CUT_OFF = 0.02  # of the modules
 AT_ONCE = 20  # modules
 SHOWN = 300  # bytes of a module
-OK, OFFSETS, EVENTS = 0, 1, 16
+OK, OFFSETS, FOLD, EVENTS = 0, 1, 8, 16
+SEQUENCE = re.compile(rb"\x1b\[[\d;]*m")
 LINE_AT_PLACE = 1  # the kind of a line with a place; that of a line without one is 0
 PLACE_WIDTH = 11  # of the place at the start of a line, or of the spaces instead
 EVENT = struct.Struct("<QQI4x")
@@ -130,8 +132,10 @@ class Printed:
         if self.status == OK and self.flags & EVENTS and not self.has_lines():
             return "lines"
         ran = subprocess.run([program, *options, path], capture_output=True, timeout=SECONDS, check=False)
-        expected = (0, self.colored(), b"") if self.status == OK else (1, b"", b"error: " + self.text + b"\n")
-        found = (ran.returncode, ran.stdout, ran.stderr)
+        is_colored_tree = self.flags & FOLD and self.flags & EVENTS
+        text, written = (self.text, SEQUENCE.sub(b"", ran.stdout)) if is_colored_tree else (self.colored(), ran.stdout)
+        expected = (0, text, b"") if self.status == OK else (1, b"", b"error: " + self.text + b"\n")
+        found = (ran.returncode, written, ran.stderr)
         return next((what for what, a, b in zip(("status", "text", "message"), expected, found) if a != b), None)
 
 
