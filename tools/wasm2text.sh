@@ -55,7 +55,7 @@ terminal_case() {
 }
 
 # The modules: the empty one, the identity function, one that lacks its last byte, one whose `dylink.0` section has subsection 9, a component,
-# one with an unknown section, and one whose custom section `z` has 2097150 zeros
+# one with an unknown section, one with a legacy `try`, and one whose custom section `z` has 2097150 zeros
 printf '\000asm\001\000\000\000' >empty.wasm
 printf '\000asm\001\000\000\000\001\006\001\140\001\177\001\177\003\002\001\000\007\005\001\001f\000\000\012\006\001\004\000\040\000\013' \
     >same.wasm
@@ -63,6 +63,7 @@ printf '\000asm\001\000\000' >cut.wasm
 printf '\000asm\001\000\000\000\000\013\010dylink.0\011\000' >late.wasm
 printf '\000asm\015\000\001\000' >component.wasm
 printf '\000asm\001\000\000\000\016\000' >unknown.wasm
+printf '\000asm\001\000\000\000\001\004\001\140\000\000\003\002\001\000\012\010\001\006\000\006\100\031\013\013' >legacy.wasm
 printf '\000asm\001\000\000\000\000\200\200\200\001\001z' | cat - /dev/zero | head -c 2097165 >big.wasm
 
 # The texts
@@ -175,6 +176,9 @@ cat >out <<'END'
 END
 case_of 0 -f same.wasm
 case_of 0 --fold-instructions same.wasm
+echo "wasm2text: legacy.wasm: legacy exception operator at byte 0x17 can't be folded" >err
+case_of 1 -f legacy.wasm same.wasm
+: >err
 
 cat >out <<'END'
 (module
@@ -447,6 +451,7 @@ terminal_case 0 'NO_COLOR=1 wasm2text --color=always same.wasm'
 cp same.wat out
 terminal_case 0 'NO_COLOR=1 wasm2text same.wasm'
 terminal_case 0 'NO_COLOR=0 wasm2text --color auto same.wasm'
+terminal_case 0 'NO_COLOR=$(printf "\377") wasm2text same.wasm'
 terminal_case 0 'wasm2text --color=never same.wasm'
 terminal_case 0 'wasm2text same.wasm >redirected; cat redirected'
 terminal_case 0 'wasm2text same.wasm | cat'

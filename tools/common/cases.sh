@@ -38,9 +38,11 @@ started() {
     status=0
     timeout 60 "$@" >written 2>reported || status=$?
     if [ "$status" != "$expected" ] || ! cmp -s out written || ! cmp -s err reported; then
-        echo "$name: $*: status $status, expected $expected. Differences of the output:"
-        diff out written | cut -c 1-200 || true
-        diff err reported | cut -c 1-200 || true
+        {
+            echo "$name: $*: status $status, expected $expected. Differences of the output:"
+            diff out written || true
+            diff err reported || true
+        } | cut -c 1-300
         failed=$((failed + 1))
     fi
 }
