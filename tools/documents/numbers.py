@@ -51,7 +51,7 @@ def of_checks(tree):
         (r"# tests; \d", tests(tree)),
         (r"^\| ((?:`\w+`(?:, )?)+) \| # \|", lambda match: sum(tests(tree, crate) for crate in re.findall(r"\w+", match.group(1)))),
         ("# runs of `printwasm`", runs),
-        ("# of `wasm2text`", others_runs),
+        ("runs of `printwasm`, # of `wasm2text`", others_runs),
         ("# shapes of modules, ", refused),
         ("(?:, |for )# names", names_of_refusals(tree)),
         (r"# shapes of modules \|", shapes),
