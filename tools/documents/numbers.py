@@ -84,7 +84,7 @@ def of_crates(tree):
         (r"\[# functions\]\(docs/GUARANTEES.md.depth-of-the-stack\)", len(recursion.functions())),
         ("each at most # deep", depth),
         ("each of the # clauses", len(re.findall(r"^ +ensures ", print_contract, re.MULTILINE))),
-        ("the # laws of `Output`", len(tree.found(r"^ +ghost \w+: \{ \w+ \w[^→\n]*\};", "crates/wasmprinter_print/src/output_trait.rt"))),
+        ("the # laws of `Output`", len(tree.found(r"^ +ghost \w+: \{ \w+ \w[^→\n]*\};", "crates/wasmprinter_print/src/layout_output_trait.rt"))),
         ("the # sets of", 2**options),
         ("sets of (?:its )?# options", options),
         (r"usage line \(typed in # files", sum("usage: printwasm [" in tree.text(path) for path in usage)),

@@ -8,7 +8,7 @@ ghost use Rattle.std.specs.IoError.{error_kind};
 ghost use Rattle.printwasm.specs.Messages.{words_error_text};
 ghost use Rattle.printwasm.specs.Outcome.{error_line};
 
-use crate::text_sink::Sink;
+use crate::sink_trait::Sink;
 use std::fmt::Display;
 use std::io::ErrorKind;
 use std::{fmt, io};

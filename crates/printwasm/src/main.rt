@@ -8,9 +8,9 @@ mod error_lines;
 mod program;
 #[cfg(test)]
 mod program_tests;
+mod sink_trait;
 #[cfg(test)]
 mod source_sink_tests;
-mod text_sink;
 
 use error_lines::ByDisplay;
 use program::launch;

@@ -10,7 +10,7 @@ ghost use Rattle.printwasm.specs.Outcome.{refused_status, writes, system};
 ghost use Rattle.wasmprinter.specs.Outcome.{IsTextRefusal};
 
 use crate::error_lines::{Render, WordsError};
-use crate::text_sink::Sink;
+use crate::sink_trait::Sink;
 use std::alloc::Global;
 use std::io;
 use std::marker::Model;

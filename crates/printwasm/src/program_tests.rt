@@ -2,7 +2,7 @@
 
 use crate::error_lines::ByDisplay;
 use crate::program::{launch, run};
-use crate::text_sink::Sink;
+use crate::sink_trait::Sink;
 use std::alloc::{AllocError, Global};
 use std::io::{ErrorKind, Write};
 use std::process::ExitCode;

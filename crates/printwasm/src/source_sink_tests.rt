@@ -6,7 +6,7 @@ use crate::error_line_tests::joined;
 use crate::error_lines::ByDisplay;
 use crate::program::run;
 use crate::program_tests::{Words, has_printed, run_with, strings_of};
-use crate::text_sink::Sink;
+use crate::sink_trait::Sink;
 use std::alloc::Global;
 use std::cell::Cell;
 use std::io::ErrorKind;

@@ -16,7 +16,7 @@ use Rattle.wasmprinter_print.specs.MadeCalls.{Whole}
 use Rattle.wasmprinter_spec.proofs.Texts.{alike_texts}
 use Rattle.wasmprinter_laws.proofs.Main.{reads_back, prints_plain_text}
 use Rattle.wasmprinter_laws.proofs.Hints.Kept.{hints_stay}
-use Rattle.wasmprinter_laws.proofs.Colored.Texts.{color_adds_sequences, texts_contain_colors}
+use Rattle.wasmprinter_laws.proofs.Colored.Texts.{color_adds_sequences, sequences_stay_within_calls}
 use Rattle.wasmprinter.specs.Decoded.{Decoded}
 use Rattle.wasmprinter.specs.Printed.{Printed, no_claims}
 use Rattle.wasmprinter.proofs.Claims.{alike_unclaimed, unclaimed_layout}
@@ -46,7 +46,7 @@ printed printer colors o {bytes} d answers foldable accepted made =
       calls = made.calls;
       run = made.run;
       alike = made.alike;
-      bare = λ spaces. texts_contain_colors prints_plain_text bytes placed by answers spelled spaces;
+      bare = λ spaces. sequences_stay_within_calls prints_plain_text bytes placed by answers spelled spaces;
       uncolored = uncolored;
       reads = λ indexed whole spaces asked.
           let own = unclaimed_layout by answers placed (alike_unclaimed made.calls (layout by answers placed) made.alike asked) in

@@ -4,7 +4,7 @@ ghost use Rattle.wasmprinter_spec.specs.Binary.{IsComponent};
 ghost use Rattle.wasmprinter.specs.Colored.{HasColoredTextBy};
 ghost use Rattle.wasmprinter.specs.Outcome.{IsTextRefusal};
 
-use crate::ansi_text_printer::AnsiText;
+use crate::ansi_memory_printer::AnsiText;
 use crate::config::Config;
 use crate::string_printing::without_printer;
 use std::alloc::Global;

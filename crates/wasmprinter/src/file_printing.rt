@@ -4,7 +4,7 @@ ghost use Rattle.std.specs.Path.{path_bytes};
 ghost use Rattle.wasmprinter_spec.specs.Options.{defaults};
 ghost use Rattle.wasmprinter.specs.TextOfFile.{IsTextOfFile, IsRefusedBy};
 
-use crate::file_source::Source;
+use crate::source_trait::Source;
 use crate::string_printing::print_bytes;
 use std::alloc::Global;
 use std::path::Path;

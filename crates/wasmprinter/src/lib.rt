@@ -10,22 +10,22 @@
 //! bytes encode, under the conditions that the contracts state. docs/LIBRARY.md has examples, which the tests run.
 #![tactic(auto)]
 
+mod ansi_memory_printer;
 mod ansi_printing;
-mod ansi_text_printer;
 mod config;
 mod file_printing;
-mod file_source;
 mod find_operator_line;
 mod offsets_and_lines;
 pub mod printer_laws;
+mod source_trait;
 mod string_printer;
 mod string_printing;
 
 pub use config::Config;
 pub use file_printing::print_file;
-pub use file_source::Source;
 pub use find_operator_line::place_of;
 pub use print::{Print, PrintFmtWrite, PrintIoWrite, PrintTermcolor, PrintText};
+pub use source_trait::Source;
 pub use string_printing::print_bytes;
 pub use wasmprinter_bytes::Error;
 pub use wasmprinter_writers::{LineStart, OffsetsAndLines};

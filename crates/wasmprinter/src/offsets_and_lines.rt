@@ -22,8 +22,8 @@ impl Config {
     /// The line starts do not decrease, and each is at a character boundary of `storage` (`boundaries`).
     ///
     /// If `skeleton` and folding are off, each function has a line for its header, one for its locals, if it has any,
-    /// and one for each of its operators, in this order. Only lines of branch hints come between them. Each is the only
-    /// line with its place.
+    /// and one for each of its operators, in this order (`lines`). The place of the header is the first byte of the
+    /// function's body. Only lines of branch hints come between them. Each is the only line with its place.
     ///
     /// Unlike the contract of [`Config::offsets_and_lines`], the contract of this method says what `storage` holds
     /// after an error.

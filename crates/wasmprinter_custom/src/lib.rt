@@ -21,7 +21,7 @@ mod section_treatment;
 mod sorted_names_builder;
 mod sorted_names_search;
 mod space;
-mod subsections_in_use;
+mod subsections_with_names;
 mod symbol_flags;
 
 pub use branch_hints::{FunctionHints, Hint, Hints, is_hint_section};

@@ -15,7 +15,7 @@ use crate::name_subsection_ids;
 use crate::sorted_names_builder::SortedNames;
 use crate::sorted_names_search::find;
 use crate::space::Space;
-use crate::subsections_in_use::{SUBSECTIONS, used_subsections};
+use crate::subsections_with_names::{SUBSECTIONS, used_subsections};
 use std::alloc::{AllocError, Global};
 use std::collections::BTreeSet;
 use std::marker::Model;

@@ -2,11 +2,11 @@
 //! have no contracts, so that a proof of a test needs no facts about printing. A failure shows the name of its row.
 #![tactic(auto)]
 
-mod calls;
+mod calls_comparison;
 mod option_sets;
 mod refusals_and_expected_results;
 
-pub use calls::{CallsRow, expect_calls, expect_each_calls, expect_recorded};
+pub use calls_comparison::{CallsRow, expect_calls, expect_each_calls, expect_recorded};
 pub use option_sets::Options;
 pub use refusals_and_expected_results::{Expected, Refusal, expect_result};
 use std::alloc::Global;

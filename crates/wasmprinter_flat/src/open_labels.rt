@@ -12,11 +12,11 @@ ghost use Rattle.wasmprinter_flat.specs.OpenLabels.Stack.{unnamed_label};
 ghost use Rattle.wasmprinter_flat.specs.OpenLabels.Inside.{label_of};
 ghost use Rattle.wasmprinter_flat.specs.OpenLabels.Views.{found_view};
 
+mod label_numbering;
 mod label_shadowing;
-mod labels_by_name;
 
+use crate::open_labels::label_numbering::{NumberedLabel, numbered_labels};
 use crate::open_labels::label_shadowing::{NameAt, NamedBlocks};
-use crate::open_labels::labels_by_name::{NumberedLabel, numbered_labels};
 use std::alloc::{AllocError, Global};
 use std::marker::Model;
 use wasmprinter_custom::{Identifier, Identifiers, NameEntries, Space};

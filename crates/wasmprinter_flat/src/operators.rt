@@ -132,10 +132,10 @@ fn write_next_hint<O: Output, S: Signatures>(
     }
 }
 
-/// Writes the operators of an expression, each after its hint if it has one. `labels` is first reset to the start of
-/// `setting.function`, so its earlier use does not matter. Its identifiers are those passed to `OpenLabels::new`, and
-/// they stay.
-// The arguments `true 0 []` say that no operator was written, no block was opened and no label is open.
+/// Writes the operators of an expression, each after its hint if it has one. A hint is on a line of its own. A hint
+/// whose offset is that of no operator is not written, and neither are the hints after it. `labels` is first reset to
+/// the start of `setting.function`, so its earlier use does not matter. Its identifiers are those passed to
+/// `OpenLabels::new`, and they stay.
 pub fn write_operators<O: Output, S: Signatures>(
     out: &mut O,
     setting: &Setting<'_, S>,

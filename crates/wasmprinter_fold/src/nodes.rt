@@ -2,10 +2,10 @@
 
 mod builder;
 mod candidates;
-mod split_last_node;
+mod split_last;
 
 pub use builder::Builder;
-pub use split_last_node::{Last, split_last_node};
+pub use split_last::{Last, split_last_node};
 
 /// The text of a node before the nodes that it holds.
 #[derive(Clone, Copy, Debug, PartialEq, Eq)]

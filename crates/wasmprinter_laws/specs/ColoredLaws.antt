@@ -38,7 +38,7 @@ ColoredGroupsAreNodes =
     ≡ Some (with_heads (λ h. items_in (head_text o h)) (tree code))
 
 -- After the escape sequences are deleted, the groups of the text of a module with folded operators are the nodes
--- of the module's trees, field by field. The text has colors or not. (All operators can be folded, and no
+-- of the module's trees, field by field. The text has colors or not. (The module is foldable, and no
 -- `dylink.0` section is refused.)
 abbrev pub ColoredModulesHaveTrees : Type 0
 ColoredModulesHaveTrees =

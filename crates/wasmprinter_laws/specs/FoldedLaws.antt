@@ -42,7 +42,7 @@ FoldedOperatorsReadBack =
     read_alone c (text_of (all_calls o (node_pieces o false s.form true s.nesting (tree code)))) ≡ Some (without_places os)
 
 -- The text of a module whose operators are folded reads as its flat text does. (As in the reading law, no table has
--- an empty initialiser, all operators can be folded, and no `dylink.0` section is refused.)
+-- an empty initialiser, the module is foldable, and no `dylink.0` section is refused.)
 abbrev pub FoldedModulesReadAsFlat : Type 0
 FoldedModulesReadAsFlat =
     (bytes : List ℕ) (m : PlacedModule) (o : Options) (answers : Answers) →

@@ -109,8 +109,8 @@ pub record HaveTrees (synthesizes : Bool) (m : PlacedModule) (fs : Fields) : Typ
   pub data_segments : AreAlike (AreAlike AreNodesOf) (map segment_nodes fs.data_segments)
       (map (λ d. segment_trees m (scope_after m (tree_scope synthesizes m)) (data_lists d)) m.data_segments)
 
--- The groups of the text of a module whose operators are folded are the nodes of its trees, field by field. (All
--- operators can be folded, the text has no colors, and no `dylink.0` section is refused.)
+-- The groups of the text of a module whose operators are folded are the nodes of its trees, field by field. (The
+-- module is foldable, the text has no colors, and no `dylink.0` section is refused.)
 abbrev pub FoldedModulesHaveTrees : Type 0
 FoldedModulesHaveTrees =
     (bytes : List ℕ) (m : PlacedModule) (o : Options) (answers : Answers) →

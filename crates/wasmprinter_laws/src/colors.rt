@@ -21,7 +21,7 @@ pub fn color_adds_sequences()
 /// For each module that bytes encode: deleting the ANSI escape sequences from the text of each call on the printer
 /// gives the calls of the layout without colors, one for one. So each sequence is within the text of one call. The
 /// indent consists of spaces and tabs.
-pub fn texts_contain_colors()
+pub fn sequences_stay_within_calls()
     ensures { TextsContainColors }
 {}
 

@@ -19,7 +19,7 @@ mod plain_text;
 pub use colors::{
     color_adds_sequences, colored_groups_are_nodes, colored_modules_have_trees, colored_text_keeps,
     colors_keep_text, folded_text_is_by_own_arities, folded_text_reads_as_flat_by_any_arities,
-    texts_contain_colors,
+    sequences_stay_within_calls,
 };
 pub use folded_trees::{
     folding_loses_nothing, nested_operators_are_folded, nested_operators_have_trees,

@@ -24,8 +24,9 @@ pub fn reader_takes_nested_operators()
 /// The premises: every index that the module uses is declared, as in each valid module: it refers to an item, and to a
 /// function type or a field of a structure type where one is required. Labels may refer to nothing. The text is not a
 /// skeleton and has no colors. Its indent consists of spaces and tabs. The printer claims no custom section. No table
-/// has an empty initialiser: its text would equal that of a table without one. If operators are folded, all can be. No
-/// `dylink.0` section is refused.
+/// has an empty initialiser: its text would equal that of a table without one. If operators are folded, no `try`,
+/// `catch`, `catch_all` or `delegate` is printed, and no branch hint that folded text can't hold: the module is
+/// *foldable*. No `dylink.0` section is refused.
 pub fn printed_text_reads_back()
     ensures { ReadsBack }
 {}
@@ -41,8 +42,8 @@ pub fn places_and_indent_keep_tokens()
 /// The branch hints of a module are those of its text, each once, directly before its operator or the group of its
 /// operator. The module's hints are valid: the functions of its last hint section are defined and increase, and so do
 /// the offsets in a function, each of which is that of an operator before the last `end`. The text is not a skeleton
-/// and has no colors. Its indent consists of spaces and tabs. If operators are folded, all can be. No `dylink.0`
-/// section is refused. The printer may claim sections.
+/// and has no colors. Its indent consists of spaces and tabs. If operators are folded, the module is foldable, as in
+/// [`printed_text_reads_back`]. No `dylink.0` section is refused. The printer may claim sections.
 pub fn hints_stay()
     ensures { HintsStay }
 {}
@@ -87,17 +88,17 @@ pub fn folded_groups_are_nodes()
     ensures { FoldedGroupsAreNodes }
 {}
 
-/// The text of a module whose operators are folded reads as its flat text does. The premises are those of the
-/// reading law ([`printed_text_reads_back`]), and all operators can be folded.
+/// The text of a module whose operators are folded reads as its flat text does. The premises are those of the reading
+/// law with folding ([`printed_text_reads_back`]): also no branch hint is on an operator whose folded text can't hold it.
 pub fn folded_text_reads_as_flat()
     ensures { FoldedModulesReadAsFlat }
 {}
 
 /// The groups of the text of a module whose operators are folded are the nodes of its trees, field by field: a
 /// function has those of its body, a global and a table those of their initialisers, and a segment those of its
-/// offset and of its items. The items of each group are those of [`folded_groups_are_nodes`]. All operators can be
-/// folded. The text is not a skeleton and has no colors. Its indent consists of spaces and tabs. No `dylink.0` section
-/// is refused. The printer may claim sections, and indices need not be declared.
+/// offset and of its items. The items of each group are those of [`folded_groups_are_nodes`]. The module is foldable,
+/// as in [`printed_text_reads_back`]. The text is not a skeleton and has no colors. Its indent consists of spaces and
+/// tabs. No `dylink.0` section is refused. The printer may claim sections, and indices need not be declared.
 pub fn folded_modules_have_trees()
     ensures { FoldedModulesHaveTrees }
 {}

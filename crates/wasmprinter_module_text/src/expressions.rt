@@ -13,7 +13,7 @@ use wasmprinter_flat::operators::{Form, Setting, write_operators};
 use wasmprinter_ops::expression::Expression;
 use wasmprinter_print::{FoldingOutput, Output};
 use wasmprinter_text::lines::close_group;
-use wasmprinter_text::parens_and_words::{open_unnamed, write_space, write_word};
+use wasmprinter_text::parens_and_words::{open_without_keyword, write_space, write_word};
 
 /// The nesting depth of an expression in a field, and of a group that contains an expression.
 const EXPRESSION_NESTING: u64 = 2;
@@ -151,7 +151,7 @@ pub fn write_constant_group<O: FoldingOutput>(
         (constant_group (scope_view O.chosen scope.old) 2 keyword.now expression.now.items) }
     ensures scope { scope_view O.chosen scope.new ≡ scope_view O.chosen scope.old }
 {
-    open_unnamed(out);
+    open_without_keyword(out);
     let outer_begun = out.enter_group();
     write_group_parts(out, scope, keyword, expression);
     close_group(out, EXPRESSION_NESTING, outer_begun);

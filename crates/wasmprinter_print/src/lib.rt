@@ -5,8 +5,8 @@
 pub mod ansi_sequences;
 mod fmt_write;
 mod halt;
+mod layout_output_trait;
 mod options;
-mod output_trait;
 mod print;
 mod print_text;
 mod printer;
@@ -14,8 +14,8 @@ mod style;
 
 pub use fmt_write::{PrintFmtWrite, WriteText};
 pub use halt::Halt;
+pub use layout_output_trait::{FoldingOutput, Output};
 pub use options::PrintOptions;
-pub use output_trait::{FoldingOutput, Output};
 pub use print::Print;
 pub use print_text::{PrintText, text_is_gained};
 pub use printer::{LayoutOptions, Printer};

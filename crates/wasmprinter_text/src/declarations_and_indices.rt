@@ -154,7 +154,8 @@ pub fn write_declaration_of<O: Output>(
 
 /// Writes an index into an index space: the identifier of the item or, if it has none, the number. `outer` is the
 /// function of a local or label or the type of a field; it is ignored for other spaces. The index may refer to nothing:
-/// it is not checked that the module has such an item.
+/// it is not checked that the module has such an item. The number of a label counts the blocks of the function as they
+/// open; the labels in operators are written by other functions.
 pub fn write_index_of<O: Output>(
     out: &mut O,
     identifiers: &Identifiers<'_, '_>,

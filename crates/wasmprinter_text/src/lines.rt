@@ -159,7 +159,8 @@ fn write_close<O: Output>(out: &mut O, place: Option<u64>, nesting: u64, on_new_
 
 /// Closes a group and leaves it. If the group contains a line break, it closes on a line of its own, which has no
 /// place. Otherwise it closes on the current line. `nesting` is the nesting depth of the group itself. `outer_begun`
-/// says whether a line had begun in the group around it, as `enter_group` returned.
+/// says whether a line had begun in the group around it, as `enter_group` returned. A line that began in the group has
+/// then begun in the group around it.
 pub fn close_group<O: Output>(out: &mut O, nesting: u64, outer_begun: bool)
     ensures { Closed (groups O.wrote O.begun O.left_group) out.old out.new (close None nesting) outer_begun }
 {
@@ -171,7 +172,7 @@ pub fn close_group<O: Output>(out: &mut O, nesting: u64, outer_begun: bool)
 /// Closes a group that ends at a place. If the group contains a line break, or lines begin with their places, it
 /// closes on a line of its own, with that place. Otherwise it closes on the current line. `nesting` is the nesting
 /// depth of the group itself. `outer_begun` says whether a line had begun in the group around it, as `enter_group`
-/// returned.
+/// returned. A line that began in the group has then begun in the group around it.
 pub fn close_group_at<O: Output>(out: &mut O, place: u64, nesting: u64, outer_begun: bool)
     ensures { Closed (groups O.wrote O.begun O.left_group) out.old out.new (close_at O.chosen place nesting) outer_begun }
 {

@@ -59,7 +59,7 @@ pub fn open_type_space<O: Output>(out: &mut O, keyword: &str)
 }
 
 /// Opens a group without a keyword: writes a parenthesis without a style, then an empty text in the style of keywords.
-pub fn open_unnamed<O: Output>(out: &mut O)
+pub fn open_without_keyword<O: Output>(out: &mut O)
     ensures { O.wrote out.old out.new (OpenUnnamed ∷ []) }
 {
     out.write_str("(");

@@ -145,8 +145,9 @@ pub fn write_bytes<P: Print>(p: &mut P, bytes: &[u8]) -> Result<(), Error>
 
 /// Writes a 32-bit float, given its bits, in the text format (section 6.3 of the standard, "Floating-Point"). A
 /// finite number is written in hexadecimal, so that the text has exactly its value. A NaN is written with its
-/// payload unless that is the canonical one. A comment follows infinity and NaN. On `Ok`, all calls for the value were
-/// made and succeeded, up to how text is split into calls.
+/// payload unless that is the canonical one. The sign has no style, the rest has the style of literals. After infinity
+/// and NaN come a space and `(;=inf;)`, `(;=-inf;)` or `(;=NaN;)` in the style of comments. On `Ok`, all calls for the
+/// value were made and succeeded, up to how text is split into calls.
 ///
 /// # Errors
 ///

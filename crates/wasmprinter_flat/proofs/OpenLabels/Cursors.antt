@@ -13,7 +13,7 @@ use Rattle.wasmprinter_custom.specs.Labels.{NamedLabel, labels_in, label_at, IsB
 use Rattle.wasmprinter_custom.specs.LabelViews.{label_view}
 use Rattle.wasmprinter_flat.specs.OpenLabels.Stack.{unnamed_label}
 use Rattle.wasmprinter_flat.specs.OpenLabels.Inside.{IsAhead, IsCursor, label_of}
-use Rattle.wasmprinter_flat.specs.declared.open_labels.labels_by_name.NumberedLabel.{NumberedLabel}
+use Rattle.wasmprinter_flat.specs.declared.open_labels.label_numbering.NumberedLabel.{NumberedLabel}
 
 -- The label is that of block n of function f.
 abbrev is_at : ℕ → ℕ → NamedLabel → Bool

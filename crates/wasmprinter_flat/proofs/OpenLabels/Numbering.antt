@@ -8,7 +8,7 @@ use Rattle.std.specs.Borrow.{Bor}
 use Rattle.std.specs.BTreeMap.{BTreeMap}
 use Rattle.wasmprinter_spec.specs.Grammar.{some_is}
 use Rattle.wasmprinter_flat.specs.OpenLabels.Numbers.{given_of, number_of, IsNumbering, AreNumbered}
-use Rattle.wasmprinter_flat.specs.declared.open_labels.labels_by_name.NumberedLabel.{NumberedLabel}
+use Rattle.wasmprinter_flat.specs.declared.open_labels.label_numbering.NumberedLabel.{NumberedLabel}
 
 -- If all known numbers are below `size`, the number of a name, known or `size` itself, is below `size + 1`.
 few_by : (size : ℕ) (a : ℕ) (o : Option ℕ) → a ≡ unwrap_or o size → ((n : ℕ) → o ≡ Some n → n < size) → a < size + 1

@@ -13,7 +13,7 @@ use Rattle.wasmprinter_custom.specs.declared.names.LabelName.{LabelName}
 use Rattle.wasmprinter_flat.specs.OpenLabels.Stack.{Stack}
 use Rattle.wasmprinter_flat.specs.OpenLabels.Numbers.{AreNumbered}
 use Rattle.wasmprinter_flat.specs.OpenLabels.Inside.{IsAhead, IsCursor, IsKept}
-use Rattle.wasmprinter_flat.specs.declared.open_labels.labels_by_name.NumberedLabel.{NumberedLabel}
+use Rattle.wasmprinter_flat.specs.declared.open_labels.label_numbering.NumberedLabel.{NumberedLabel}
 use Rattle.wasmprinter_flat.proofs.OpenLabels.Cursors.{name_in}
 
 abbrev function_of : NumberedLabel → ℕ

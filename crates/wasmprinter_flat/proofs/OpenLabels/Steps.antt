@@ -10,7 +10,7 @@ use Rattle.wasmprinter_flat.specs.OpenLabels.LabelState.{LabelState, after_openi
 use Rattle.wasmprinter_flat.specs.OpenLabels.Stack.{Block, Stack, depths, AreBelow, Descend, without_block_at, StandsAtDepth, unnamed_label, labels_from}
 use Rattle.wasmprinter_flat.specs.OpenLabels.Numbers.{given_of, AreNumbered}
 use Rattle.wasmprinter_flat.specs.OpenLabels.Inside.{label_of, IsOf, IsKept}
-use Rattle.wasmprinter_flat.specs.declared.open_labels.labels_by_name.NumberedLabel.{NumberedLabel}
+use Rattle.wasmprinter_flat.specs.declared.open_labels.label_numbering.NumberedLabel.{NumberedLabel}
 use Rattle.wasmprinter_flat.proofs.OpenLabels.Cursors.{own_some, own_none, cursor_named, cursor_unnamed, next_is_one}
 use Rattle.wasmprinter_flat.proofs.OpenLabels.Targets.{labels_length, labels_named, labels_unnamed, below_more, below_closed, length_closed, all_closed, unnamed_found, found_at_name, found_unnamed}
 

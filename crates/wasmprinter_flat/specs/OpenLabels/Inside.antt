@@ -7,7 +7,7 @@ use Rattle.wasmprinter_custom.specs.Labels.{NamedLabel, labels_in, Ascend, AreOf
 use Rattle.wasmprinter_custom.specs.LabelViews.{label_view}
 use Rattle.wasmprinter_flat.specs.OpenLabels.Stack.{Block, Stack, depths, AreBelow}
 use Rattle.wasmprinter_flat.specs.OpenLabels.Numbers.{AreNumbered}
-use Rattle.wasmprinter_flat.specs.declared.open_labels.labels_by_name.NumberedLabel.{NumberedLabel}
+use Rattle.wasmprinter_flat.specs.declared.open_labels.label_numbering.NumberedLabel.{NumberedLabel}
 
 -- ---- The cursor into the labels with names
 

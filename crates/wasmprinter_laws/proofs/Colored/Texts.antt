@@ -93,5 +93,5 @@ calls_so m o answers plain =
     let e : all_calls o qs ≡ all_calls (without_color o) qs = same_all_calls o qs in
     bare_colored o (module_so o answers m) (subst IsPlainText (sym (ap text_of e)) plain) ∙ e
 
-pub texts_contain_colors : PrintsPlainText → TextsContainColors
-texts_contain_colors all bytes m o answers spells spaces = calls_so m o answers (all bytes m (without_color o) answers spells refl spaces)
+pub sequences_stay_within_calls : PrintsPlainText → TextsContainColors
+sequences_stay_within_calls all bytes m o answers spells spaces = calls_so m o answers (all bytes m (without_color o) answers spells refl spaces)
