@@ -8,7 +8,7 @@ use std::path::Path;
 use std::test::Fail;
 use std::{fs, io};
 use wasmprinter::{Error, Source, print_file};
-use wasmprinter_samples::module_from_parts::{Part, TextPart, build, text_of_parts};
+use wasmprinter_samples::modules_and_texts_from_parts::{Part, TextPart, build, text_of_parts};
 use wasmprinter_samples::{EMPTY_TEXT, IDENTITY, IDENTITY_TEXT, PREAMBLE, expect_text};
 
 /// A source with one file, `identity.wasm`, that counts its reads.

@@ -12,8 +12,8 @@ use wasmprinter_expecting::Options::Default;
 use wasmprinter_expecting::{
     CallsRow, Refusal, expect_each_calls, expect_recorded, print_to, refusal_of,
 };
-use wasmprinter_samples::module_from_parts::Part::{Bytes, Custom, Section};
-use wasmprinter_samples::module_from_parts::{Parts, add_parts, build};
+use wasmprinter_samples::modules_and_texts_from_parts::Part::{Bytes, Custom, Section};
+use wasmprinter_samples::modules_and_texts_from_parts::{Parts, add_parts, build};
 use wasmprinter_samples::sections::CUSTOM;
 use wasmprinter_samples::{PREAMBLE, Recorder};
 

@@ -9,8 +9,8 @@ use wasmprinter::wasm::{
 };
 use wasmprinter_decoder::{BodyParts, Export, ExternKind, Fields, LocalEntry, TypeGroup};
 use wasmprinter_ops::opcodes_and_shapes::Listed;
-use wasmprinter_samples::module_from_parts::Part::Bytes;
-use wasmprinter_samples::module_from_parts::{Parts, build};
+use wasmprinter_samples::modules_and_texts_from_parts::Part::Bytes;
+use wasmprinter_samples::modules_and_texts_from_parts::{Parts, build};
 use wasmprinter_samples::{CONTROL, EVERYTHING, PREAMBLE};
 
 /// The expected immediates of an operator, with lists as slices.

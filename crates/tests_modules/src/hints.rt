@@ -4,8 +4,8 @@ use std::test::Fail;
 use wasmprinter_expecting::Options::Default;
 use wasmprinter_expecting::{CallsRow, expect_each_calls};
 use wasmprinter_samples::PREAMBLE;
-use wasmprinter_samples::module_from_parts::Part::{Bytes, Custom, Section};
-use wasmprinter_samples::module_from_parts::{ONE_FUNCTION, ONE_PARAM, Part, Parts};
+use wasmprinter_samples::modules_and_texts_from_parts::Part::{Bytes, Custom, Section};
+use wasmprinter_samples::modules_and_texts_from_parts::{ONE_FUNCTION, ONE_PARAM, Part, Parts};
 use wasmprinter_samples::sections::{CODE, HINTS};
 
 /// The code section of a body that tests the parameter in an `if`.

@@ -6,9 +6,11 @@ use std::alloc::Global;
 use std::test::Fail;
 use wasmprinter_expecting::{Refusal, expect_printed};
 use wasmprinter_samples::PREAMBLE;
-use wasmprinter_samples::module_from_parts::Part::{Bytes, Copies};
-use wasmprinter_samples::module_from_parts::TextPart::{self, Numbered, Text, TextCopies};
-use wasmprinter_samples::module_from_parts::{Parts, build, text_of_parts};
+use wasmprinter_samples::modules_and_texts_from_parts::Part::{Bytes, Copies};
+use wasmprinter_samples::modules_and_texts_from_parts::TextPart::{
+    self, Numbered, Text, TextCopies,
+};
+use wasmprinter_samples::modules_and_texts_from_parts::{Parts, build, text_of_parts};
 
 /// Checks that the module that consists of `parts` has the text that consists of `typed`.
 ///

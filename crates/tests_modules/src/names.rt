@@ -3,8 +3,8 @@
 use std::test::Fail;
 use wasmprinter::wasm::{Names, Space, decode};
 use wasmprinter_samples::IDENTITY;
-use wasmprinter_samples::module_from_parts::Part::{Bytes, Custom};
-use wasmprinter_samples::module_from_parts::{Part, build};
+use wasmprinter_samples::modules_and_texts_from_parts::Part::{Bytes, Custom};
+use wasmprinter_samples::modules_and_texts_from_parts::{Part, build};
 
 /// `IDENTITY`, with the name `x` for its parameter.
 const NAMED_PARAMETER: &[Part<'static>] = &[

@@ -8,7 +8,7 @@ use wasmprinter_expecting::Expected::Malformed;
 use wasmprinter_expecting::{
     Refusal, early_refusal_of, expect_printed, is_malformed, is_printed_as,
 };
-use wasmprinter_samples::module_from_parts::Part::{Bytes, Slice};
+use wasmprinter_samples::modules_and_texts_from_parts::Part::{Bytes, Slice};
 use wasmprinter_samples::{EMPTY_TEXT, IDENTITY, IDENTITY_TEXT, MINUS_ONE, PREAMBLE};
 
 /// The text of `IDENTITY` if it is cut off after its first section.

@@ -5,7 +5,7 @@ use std::alloc::Global;
 use std::test::Fail;
 use wasmprinter::wasm::decode;
 use wasmprinter_expecting::{Expected, Refusal, early_refusal_of, expect_result};
-use wasmprinter_samples::module_from_parts::{Parts, build};
+use wasmprinter_samples::modules_and_texts_from_parts::{Parts, build};
 
 /// A module: the name of the row, the parts, and the expected result.
 pub type Row = (&'static str, Parts, Expected);

@@ -8,8 +8,10 @@ use std::alloc::{AllocError, Global};
 use std::test::Fail;
 use wasmprinter::{Config, Error, LineStart};
 use wasmprinter_expecting::{Options, Refusal};
-use wasmprinter_samples::module_from_parts::Part::{Body, Bytes, Custom, Section, Slice};
-use wasmprinter_samples::module_from_parts::{NO_PARAMS, ONE_FUNCTION, Parts, build};
+use wasmprinter_samples::modules_and_texts_from_parts::Part::{
+    Body, Bytes, Custom, Section, Slice,
+};
+use wasmprinter_samples::modules_and_texts_from_parts::{NO_PARAMS, ONE_FUNCTION, Parts, build};
 use wasmprinter_samples::sections::{CODE, FUNCTION, HINTS, TABLE};
 use wasmprinter_samples::{IDENTITY, PREAMBLE};
 

@@ -9,9 +9,11 @@ use wasmprinter::{Config, Error};
 use wasmprinter_expecting::Options::{self, Default, Folded, FoldedPlaces, Synthesized};
 use wasmprinter_expecting::{CallsRow, expect_each_calls, print_to};
 use wasmprinter_samples::expected_calls::IDENTITY_FOLDED;
-use wasmprinter_samples::module_from_parts::Part::{Body, Bytes, Custom, Section, Slice};
-use wasmprinter_samples::module_from_parts::{NO_PARAMS, ONE_FUNCTION};
 use wasmprinter_samples::modules::customs::DYLINK_EXPORT;
+use wasmprinter_samples::modules_and_texts_from_parts::Part::{
+    Body, Bytes, Custom, Section, Slice,
+};
+use wasmprinter_samples::modules_and_texts_from_parts::{NO_PARAMS, ONE_FUNCTION};
 use wasmprinter_samples::sections::TYPE;
 use wasmprinter_samples::{
     CONTROL, CONTROL_CALLS, EMPTY_CALLS, EVERYTHING, EVERYTHING_CALLS, FIELDS, FIELDS_CALLS,

@@ -6,8 +6,10 @@ use std::test::Fail;
 use wasmprinter::{Config, Error};
 use wasmprinter_expecting::Options::{self, Default, Folded, FoldedPlaces, Places};
 use wasmprinter_expecting::{Refusal, colored_text_by};
-use wasmprinter_samples::module_from_parts::Part::{Body, Bytes, Copies, Custom, Section, Slice};
-use wasmprinter_samples::module_from_parts::{
+use wasmprinter_samples::modules_and_texts_from_parts::Part::{
+    Body, Bytes, Copies, Custom, Section, Slice,
+};
+use wasmprinter_samples::modules_and_texts_from_parts::{
     NO_PARAMS, ONE_FUNCTION, Parts, TextPart, build, text_of_parts,
 };
 use wasmprinter_samples::sections::{DATA, GLOBAL, HINTS};

@@ -6,8 +6,8 @@ use std::test::Fail;
 use wasmprinter::Config;
 use wasmprinter_expecting::{Options, Refusal};
 use wasmprinter_samples::PREAMBLE;
-use wasmprinter_samples::module_from_parts::Part::{Bytes, Section};
-use wasmprinter_samples::module_from_parts::{Parts, build};
+use wasmprinter_samples::modules_and_texts_from_parts::Part::{Bytes, Section};
+use wasmprinter_samples::modules_and_texts_from_parts::{Parts, build};
 use wasmprinter_samples::sections::{DATA, ELEMENT, GLOBAL, TABLE};
 
 /// A module whose function has a `try` at byte 23, with a `catch_all` in it.

@@ -4,11 +4,11 @@ use std::alloc::Global;
 use std::test::Fail;
 use wasmprinter_expecting::{Options, expect_same, text_by, text_of};
 use wasmprinter_samples::PREAMBLE;
-use wasmprinter_samples::module_from_parts::Part::{Bytes, Copies};
-use wasmprinter_samples::module_from_parts::TextPart::{
+use wasmprinter_samples::modules_and_texts_from_parts::Part::{Bytes, Copies};
+use wasmprinter_samples::modules_and_texts_from_parts::TextPart::{
     self, Levels, LevelsBack, Line, Numbered, NumberedLevels, Text, TextCopies,
 };
-use wasmprinter_samples::module_from_parts::{Parts, build, text_of_parts};
+use wasmprinter_samples::modules_and_texts_from_parts::{Parts, build, text_of_parts};
 
 /// The number of operators or blocks of a body.
 const MANY: u32 = 100_000;

@@ -5,7 +5,7 @@ use std::alloc::{AllocError, Global};
 use std::test::Fail;
 use wasmprinter_expecting::is_malformed;
 use wasmprinter_samples::PREAMBLE;
-use wasmprinter_samples::module_from_parts::{NO_PARAMS, ONE_FUNCTION, Part, build};
+use wasmprinter_samples::modules_and_texts_from_parts::{NO_PARAMS, ONE_FUNCTION, Part, build};
 
 /// Returns a module whose function has no parameters and has these operators, of fewer than 100 bytes.
 fn with_operators(alloc: Global, operators: &[u8]) -> Result<Vec<u8>, AllocError> {

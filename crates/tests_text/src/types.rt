@@ -4,8 +4,8 @@ use std::alloc::{AllocError, Global};
 use std::test::Fail;
 use wasmprinter_expecting::expect_printed;
 use wasmprinter_samples::PREAMBLE;
-use wasmprinter_samples::module_from_parts::Part::{Bytes, Copies};
-use wasmprinter_samples::module_from_parts::{TextPart, build, text_of_parts};
+use wasmprinter_samples::modules_and_texts_from_parts::Part::{Bytes, Copies};
+use wasmprinter_samples::modules_and_texts_from_parts::{TextPart, build, text_of_parts};
 
 /// Returns a module with a thousand types of functions without parameters and results.
 fn thousand_types(alloc: Global) -> Result<Vec<u8>, AllocError> {

@@ -9,7 +9,7 @@ use crate::buffer_and_event_printer::Copier;
 use crate::status_of_error::{BAD_INDENT, PRINTED, UNKNOWN_OPTION};
 use wasmprinter::Error;
 use wasmprinter_print::Output;
-use wasmprinter_text::numbers::{write_decimal_between, write_hexadecimal_between};
+use wasmprinter_text::integers::{write_decimal_between, write_hexadecimal_between};
 use wasmprinter_text::standalone_values::{Value, write_value};
 
 /// A status with its detail.

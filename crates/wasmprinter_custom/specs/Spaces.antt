@@ -1,8 +1,8 @@
 -- The subsection that names the items of an index space.
 use Rattle.std.specs.Prelude.{ℕ, if◌then◌else◌}
 use Rattle.wasmprinter_spec.specs.Names.Section.{function_subsection, local_subsection, label_subsection, type_subsection, table_subsection, memory_subsection, global_subsection, elem_subsection, data_subsection, field_subsection, tag_subsection, is_indirect}
-use Rattle.wasmprinter_custom.specs.declared.space.Space.{Space}
-use Rattle.wasmprinter_custom.specs.declared.space.Space.TheVariants.{Func, Local, Label, Types, Table, Memory, Global, Elem, Data, Field, Tag}
+use Rattle.wasmprinter_custom.specs.declared.index_space.Space.{Space}
+use Rattle.wasmprinter_custom.specs.declared.index_space.Space.TheVariants.{Func, Local, Label, Types, Table, Memory, Global, Elem, Data, Field, Tag}
 
 -- The id of the subsection.
 abbrev pub id_of : Space → ℕ

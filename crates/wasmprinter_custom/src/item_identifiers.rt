@@ -7,8 +7,8 @@ ghost use Rattle.wasmprinter_custom.specs.Spaces.{id_of, outer_of};
 ghost use Rattle.wasmprinter_custom.specs.Views.{name_at};
 ghost use Rattle.wasmprinter_custom.specs.Shown.{identifier_view, synthesized_view};
 
+use crate::index_space::Space;
 use crate::names::{Name, NameEntries, Names};
-use crate::space::Space;
 
 /// The identifier of an item.
 #[derive(Clone, Copy, Debug, PartialEq, Eq)]

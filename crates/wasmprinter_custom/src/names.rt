@@ -10,11 +10,11 @@ ghost use Rattle.wasmprinter_custom.specs.Lookups.{Ascends, AreUsed};
 ghost use Rattle.wasmprinter_custom.specs.Labels.{labels_in, Ascend, AreOfLabels};
 ghost use Rattle.wasmprinter_custom.specs.LabelViews.{label_view};
 
+use crate::index_space::Space;
 use crate::name_position_guesses::Guesses;
 use crate::name_subsection_ids;
 use crate::sorted_names_builder::SortedNames;
 use crate::sorted_names_search::find;
-use crate::space::Space;
 use crate::subsections_with_names::{SUBSECTIONS, used_subsections};
 use std::alloc::{AllocError, Global};
 use std::collections::BTreeSet;

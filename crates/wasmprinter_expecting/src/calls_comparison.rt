@@ -4,7 +4,7 @@ use crate::{Options, print_to};
 use std::alloc::Global;
 use std::test::Fail;
 use wasmprinter::Config;
-use wasmprinter_samples::module_from_parts::{Parts, build};
+use wasmprinter_samples::modules_and_texts_from_parts::{Parts, build};
 use wasmprinter_samples::{Recorder, expect_same};
 
 /// Checks that a recorder recorded exactly these calls and missed none.

@@ -8,7 +8,7 @@ use Rattle.wasmprinter_custom.specs.Shown.{names_of_identifiers}
 use Rattle.wasmprinter_custom.specs.Spaces.{id_of, outer_of}
 use Rattle.wasmprinter_custom.specs.Views.{name_at}
 use Rattle.wasmprinter_custom.specs.declared.item_identifiers.Identifiers.{Identifiers}
-use Rattle.wasmprinter_custom.specs.declared.space.Space.{Space as NamedSpace}
+use Rattle.wasmprinter_custom.specs.declared.index_space.Space.{Space as NamedSpace}
 use Rattle.wasmprinter_flat.specs.Contexts.{operand_subsection}
 
 -- An item has the identifier that the name subsection of its space gives it. If the space has no subsection, the

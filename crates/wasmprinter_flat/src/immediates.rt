@@ -19,7 +19,7 @@ use wasmprinter_ops::RefType;
 use wasmprinter_ops::opcodes_and_shapes::{Shape, Space};
 use wasmprinter_ops::operator::Immediates;
 use wasmprinter_print::Output;
-use wasmprinter_text::numbers::write_signed;
+use wasmprinter_text::integers::write_signed;
 use wasmprinter_text::type_use::Signatures;
 
 /// Writes immediates by their shape, with a space before each.

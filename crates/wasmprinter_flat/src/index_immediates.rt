@@ -14,7 +14,7 @@ use crate::immediate_context::Context;
 use wasmprinter_ops::opcodes_and_shapes::Space;
 use wasmprinter_print::Output;
 use wasmprinter_text::declarations_and_indices::write_index;
-use wasmprinter_text::numbers::write_number_word;
+use wasmprinter_text::integers::write_number_word;
 use wasmprinter_text::parens_and_words::write_space;
 use wasmprinter_text::type_use::{Signatures, write_type_index};
 

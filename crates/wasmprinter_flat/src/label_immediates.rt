@@ -13,7 +13,7 @@ use wasmprinter_ops::block_immediates::Targets;
 use wasmprinter_print::Output;
 use wasmprinter_text::comments::{write_depth_comment, write_unstyled_comment};
 use wasmprinter_text::declarations_and_indices::{write_id_and_name, write_index};
-use wasmprinter_text::numbers::{
+use wasmprinter_text::integers::{
     write_index as write_number, write_number_word, write_space_index,
 };
 use wasmprinter_text::parens_and_words::write_space;

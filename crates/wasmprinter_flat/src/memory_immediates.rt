@@ -10,7 +10,7 @@ use crate::index_immediates::write_default_index;
 use wasmprinter_ops::mem_arg::MemArg;
 use wasmprinter_ops::opcodes_and_shapes::Space;
 use wasmprinter_print::Output;
-use wasmprinter_text::numbers::{power, write_numbered_word};
+use wasmprinter_text::integers::{power, write_numbered_word};
 use wasmprinter_text::parens_and_words::write_space;
 use wasmprinter_text::type_use::Signatures;
 

@@ -7,7 +7,7 @@ ghost use Rattle.wasmprinter_text.specs.Numbers.{space};
 
 use crate::index_immediates::write_count;
 use wasmprinter_print::{Output, Style};
-use wasmprinter_text::numbers::write_byte_digits;
+use wasmprinter_text::integers::write_byte_digits;
 use wasmprinter_text::parens_and_words::write_space_type_word;
 
 /// The size in bytes of each number of a vector.

@@ -2,10 +2,10 @@
 
 mod builder;
 mod candidates;
-mod split_last;
+mod split_last_subtree;
 
 pub use builder::Builder;
-pub use split_last::{Last, split_last_node};
+pub use split_last_subtree::{Last, split_last_node};
 
 /// The text of a node before the nodes that it holds.
 #[derive(Clone, Copy, Debug, PartialEq, Eq)]

@@ -2,7 +2,9 @@
 //! proves. The laws contain no code of the printer: they relate the grammar, the layout and the reader of text.
 //!
 //! - `module_text_reads_back`: printed text reads back as the module that the bytes encode.
-//! - `literals_read_back`: quoted strings, floats, and lists of calls with one text.
+//! - `literals_read_back`: quoted strings and floats.
+//! - `printable_text`: which characters printed text has, and which lists of calls have one text.
+//! - `names_and_identifiers`: name sections, identifiers and labels.
 //! - `line_places`: the lines of a text and their places in the module.
 //! - `folded_trees`: folding and unfolding lists of operators.
 //! - `colors`: colors add only ANSI escape sequences.
@@ -14,7 +16,7 @@ mod line_places;
 mod literals_read_back;
 mod module_text_reads_back;
 mod names_and_identifiers;
-mod plain_text;
+mod printable_text;
 
 pub use colors::{
     color_adds_sequences, colored_groups_are_nodes, colored_modules_have_trees, colored_text_keeps,
@@ -43,7 +45,7 @@ pub use names_and_identifiers::{
     labels_mean_their_blocks, modules_have_identifiers, name_maps_end_at_the_first_error,
     name_sections_give_entries, name_sections_give_one_list,
 };
-pub use plain_text::{
+pub use printable_text::{
     alike_calls_have_one_text, plain_text_has_no_color, plain_text_is_utf8, plain_texts_join,
     printed_text_is_plain,
 };

@@ -8,10 +8,10 @@ use Rattle.wasmprinter_spec.specs.Layout.Declarations as layout
 use Rattle.wasmprinter_spec.specs.Folding.Arities.{types_of}
 use Rattle.wasmprinter_custom.specs.Spaces.{id_of, outer_of}
 use Rattle.wasmprinter_custom.specs.Views.{name_at}
-use Rattle.wasmprinter_custom.specs.declared.space.Space.{Space}
+use Rattle.wasmprinter_custom.specs.declared.index_space.Space.{Space}
 use Rattle.wasmprinter_flat.specs.OpenLabels.LabelState.{LabelState, names_of}
 use Rattle.wasmprinter_fold.specs.Views.{FolderView, folding_view}
-use Rattle.wasmprinter_module_text.specs.declared.module_scope.Scope.{Scope}
+use Rattle.wasmprinter_module_text.specs.declared.printing_scope.Scope.{Scope}
 
 -- How operators are folded, if the options ask for it and there is a folder.
 abbrev pub folding_in : Bool → Option FolderView → Option layout.Folding

@@ -5,8 +5,8 @@ ghost use Rattle.wasmprinter_decoder.specs.Segments.{data_mode_view};
 ghost use Rattle.wasmprinter_module_text.specs.Scopes.{scope_view};
 
 use crate::expressions::write_constant_group;
-use crate::field_lines::Field;
-use crate::module_scope::{Scope, write_declaration_in, write_index_group_in};
+use crate::field_trait::Field;
+use crate::printing_scope::{Scope, write_declaration_in, write_index_group_in};
 use wasmprinter_custom::Space;
 use wasmprinter_decoder::{Data, DataMode};
 use wasmprinter_print::{FoldingOutput, Output};

@@ -5,13 +5,13 @@ ghost use Rattle.wasmprinter_spec.specs.Layout.Customs.{note, sizes_group, sizes
 ghost use Rattle.wasmprinter_spec.specs.Layout.Customs.{content_pieces, subsections_pieces, space_quoted, space_quoted_list};
 ghost use Rattle.wasmprinter_custom.specs.Contents.{content_view};
 
-use crate::annotation_depths::{LINE_NESTING, SECTION_NESTING};
+use crate::nesting_constants::{LINE_NESTING, SECTION_NESTING};
 use crate::symbol_flag_printing::write_flags;
 use wasmprinter_custom::{Content, Dylink, DylinkNames, ExportInfo, ImportInfo, ItemsIn, MemInfo};
 use wasmprinter_print::Output;
 use wasmprinter_text::annotations::open_annotation;
+use wasmprinter_text::integers::write_number_word;
 use wasmprinter_text::lines::{close_group, write_break};
-use wasmprinter_text::numbers::write_number_word;
 use wasmprinter_text::parens_and_words::{
     open_group, open_group_space, open_plain, write_close_paren, write_space,
 };

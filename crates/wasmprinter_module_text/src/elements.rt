@@ -10,8 +10,8 @@ ghost use Rattle.wasmprinter_decoder.specs.Segments.{element_mode_view, element_
 ghost use Rattle.wasmprinter_module_text.specs.Scopes.{scope_view};
 
 use crate::expressions::write_constant_group;
-use crate::field_lines::Field;
-use crate::module_scope::{
+use crate::field_trait::Field;
+use crate::printing_scope::{
     Scope, write_declaration_in, write_index_group_in, write_index_in, write_ref_type_in,
 };
 use wasmprinter_bytes::lazy_items::Items;

@@ -7,12 +7,12 @@ ghost use Rattle.wasmprinter_decoder.specs.Externs.{kind_view};
 ghost use Rattle.wasmprinter_flat.specs.OpenLabels.LabelState.{LabelState, names_of};
 ghost use Rattle.wasmprinter_module_text.specs.Scopes.{scope_view, item_in};
 
-use crate::field_lines::Field;
-use crate::module_scope::{Scope, write_index_in};
+use crate::field_trait::Field;
+use crate::printing_scope::{Scope, write_index_in};
 use wasmprinter_custom::Space;
 use wasmprinter_decoder::{Export, ExternKind};
 use wasmprinter_print::{FoldingOutput, Output};
-use wasmprinter_text::numbers::write_number_word;
+use wasmprinter_text::integers::write_number_word;
 use wasmprinter_text::parens_and_words::{open_group_space, write_close_paren, write_space};
 use wasmprinter_text::strings::write_string;
 

@@ -6,8 +6,8 @@ ghost use Rattle.wasmprinter_spec.specs.Layout.Expressions.{in_line, word_unless
 ghost use Rattle.wasmprinter_spec.specs.Layout.Expressions.{constant_pieces, grouped_pieces, group_parts, constant_group};
 ghost use Rattle.wasmprinter_module_text.specs.Scopes.{scope_view, is_one};
 
-use crate::module_scope::Scope;
 use crate::operators::write_flat_or_folded;
+use crate::printing_scope::Scope;
 use wasmprinter_custom::FunctionHints;
 use wasmprinter_flat::operators::{Form, Setting, write_operators};
 use wasmprinter_ops::expression::Expression;

@@ -5,7 +5,7 @@ ghost use Rattle.wasmprinter_spec.specs.Row as row;
 ghost use Rattle.wasmprinter_spec.specs.Layout.Functions.{header_pieces};
 ghost use Rattle.wasmprinter_module_text.specs.Scopes.{scope_view};
 
-use crate::module_scope::{Scope, write_declaration_in, write_type_use_in};
+use crate::printing_scope::{Scope, write_declaration_in, write_type_use_in};
 use wasmprinter_custom::Space;
 use wasmprinter_print::Output;
 

@@ -8,8 +8,8 @@ ghost use Rattle.wasmprinter_module_text.specs.Functions.{parameter_count_of, re
 
 use crate::func_and_tag_headers::write_function_header;
 use crate::locals::write_locals;
-use crate::module_scope::{FIELD_NESTING, Scope};
 use crate::operators::write_flat_or_folded;
+use crate::printing_scope::{FIELD_NESTING, Scope};
 use wasmprinter_custom::FunctionHints;
 use wasmprinter_decoder::{BodyParts, Function};
 use wasmprinter_flat::operators::{Form, Setting};

@@ -7,8 +7,8 @@ ghost use Rattle.wasmprinter_flat.specs.OpenLabels.LabelState.{names_of};
 ghost use Rattle.wasmprinter_module_text.specs.Scopes.{scope_view};
 
 use crate::expressions::write_constant;
-use crate::field_lines::Field;
-use crate::module_scope::{Scope, write_declaration_in, write_val_type_in};
+use crate::field_trait::Field;
+use crate::printing_scope::{Scope, write_declaration_in, write_val_type_in};
 use wasmprinter_custom::Space;
 use wasmprinter_decoder::{Global, GlobalType};
 use wasmprinter_print::{FoldingOutput, Output};

@@ -6,11 +6,11 @@ ghost use Rattle.wasmprinter_decoder.specs.Externs.{extern_view, HasPage};
 ghost use Rattle.wasmprinter_module_text.specs.Scopes.{scope_view};
 
 use crate::exports::kind_word;
-use crate::field_lines::{Field, write_field};
+use crate::field_trait::{Field, write_field};
 use crate::func_and_tag_headers::{write_function_header, write_tag_header};
 use crate::globals::write_declared_global;
 use crate::memories::write_declared_memory;
-use crate::module_scope::Scope;
+use crate::printing_scope::Scope;
 use crate::tables::write_declared_table;
 use std::marker::Model;
 use wasmprinter_decoder::{ExternType, Import};

@@ -2,14 +2,13 @@
 //! sections among them (appendix "Custom Annotations"), and the whole module, to any printer.
 #![tactic(auto)]
 
-mod annotation_depths;
 mod custom_sections;
 mod data_segments;
 mod dylink;
 mod elements;
 mod exports;
 mod expressions;
-mod field_lines;
+mod field_trait;
 mod func_and_tag_headers;
 mod functions;
 mod globals;
@@ -18,8 +17,9 @@ mod limits;
 mod locals;
 mod memories;
 mod module_printing;
-mod module_scope;
+mod nesting_constants;
 mod operators;
+mod printing_scope;
 mod producers;
 mod raw;
 mod section_fields;

@@ -8,7 +8,7 @@ ghost use Rattle.wasmprinter_text.specs.Variables.{walk_pieces};
 ghost use Rattle.wasmprinter_text.specs.declared.types.params_and_locals.Before.TheVariants.{Line};
 ghost use Rattle.wasmprinter_module_text.specs.LocalWalk.{after_one, after_all, local_parts, locals_parts};
 
-use crate::module_scope::Scope;
+use crate::printing_scope::Scope;
 use wasmprinter_decoder::{LocalEntry, Locals};
 use wasmprinter_ops::ValType;
 use wasmprinter_print::Output;

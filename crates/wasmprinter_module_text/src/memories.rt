@@ -6,9 +6,9 @@ ghost use Rattle.wasmprinter_spec.specs.Layout.Memories.{shared_pieces, page_pie
 ghost use Rattle.wasmprinter_decoder.specs.Externs.{memory_type_view, IsPage};
 ghost use Rattle.wasmprinter_module_text.specs.Scopes.{scope_view};
 
-use crate::field_lines::Field;
+use crate::field_trait::Field;
 use crate::limits::{write_sizes, write_wide};
-use crate::module_scope::{Scope, write_declaration_in};
+use crate::printing_scope::{Scope, write_declaration_in};
 use wasmprinter_custom::Space;
 use wasmprinter_decoder::{Memory, MemoryType};
 use wasmprinter_print::{FoldingOutput, Output};

@@ -3,7 +3,7 @@ ghost use Rattle.std.specs.Prelude.{[], ◌∷◌, codes, Some};
 ghost use Rattle.wasmprinter_spec.specs.Piece.{Break};
 ghost use Rattle.wasmprinter_spec.specs.Layout.Customs.{note, values_pieces, fields_pieces};
 
-use crate::annotation_depths::{LINE_NESTING, SECTION_NESTING};
+use crate::nesting_constants::{LINE_NESTING, SECTION_NESTING};
 use wasmprinter_custom::{Producers, ProducersField, Value};
 use wasmprinter_print::Output;
 use wasmprinter_text::annotations::{open_annotation, open_annotation_word};

@@ -3,7 +3,7 @@ ghost use Rattle.std.specs.Prelude.{◌≡◌};
 ghost use Rattle.wasmprinter_spec.specs.Layout.Customs.{section_word as word_of_section, two_words, after_pieces, raw_pieces, malformed_pieces};
 ghost use Rattle.wasmprinter_decoder.specs.Places.{section_kind_view, after_view};
 
-use crate::annotation_depths::SECTION_NESTING;
+use crate::nesting_constants::SECTION_NESTING;
 use wasmprinter_decoder::custom_section_positions::{CustomEntry, SectionKind};
 use wasmprinter_print::Output;
 use wasmprinter_text::annotations::{open_annotation_space, write_plain_line_comment};

@@ -11,10 +11,10 @@ ghost use Rattle.wasmprinter_decoder.specs.Places.{section_kind_view};
 ghost use Rattle.wasmprinter_module_text.specs.Scopes.{scope_view, function_scope_view};
 ghost use Rattle.wasmprinter_module_text.specs.Parts.{field_line};
 
-use crate::field_lines::{Field, write_each};
+use crate::field_trait::{Field, write_each};
 use crate::functions::write_function;
 use crate::imports::write_imports;
-use crate::module_scope::Scope;
+use crate::printing_scope::Scope;
 use crate::start::write_start;
 use crate::types::write_type_groups;
 use wasmprinter_decoder::find_branch_hints::hints_of;

@@ -5,8 +5,8 @@ ghost use Rattle.wasmprinter_spec.specs.Layout.Start.{start_pieces};
 ghost use Rattle.wasmprinter_spec.specs.Layout.Declarations.{item_index};
 ghost use Rattle.wasmprinter_module_text.specs.Scopes.{scope_view};
 
-use crate::field_lines::{Field, write_field};
-use crate::module_scope::{Scope, write_index_in};
+use crate::field_trait::{Field, write_field};
+use crate::printing_scope::{Scope, write_index_in};
 use wasmprinter_custom::Space;
 use wasmprinter_decoder::Start;
 use wasmprinter_print::FoldingOutput;

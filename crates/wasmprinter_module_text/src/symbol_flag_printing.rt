@@ -8,7 +8,7 @@ ghost use Rattle.wasmprinter_custom.specs.FlagPieces.{words_pieces, others_piece
 
 use wasmprinter_custom::SymbolFlags;
 use wasmprinter_print::Output;
-use wasmprinter_text::numbers::write_hexadecimal;
+use wasmprinter_text::integers::write_hexadecimal;
 use wasmprinter_text::parens_and_words::{write_space, write_word};
 
 /// Writes a space and a word.

@@ -7,9 +7,9 @@ ghost use Rattle.wasmprinter_flat.specs.OpenLabels.LabelState.{names_of};
 ghost use Rattle.wasmprinter_module_text.specs.Scopes.{scope_view};
 
 use crate::expressions::write_constant;
-use crate::field_lines::Field;
+use crate::field_trait::Field;
 use crate::limits::{write_sizes, write_wide};
-use crate::module_scope::{Scope, write_declaration_in, write_ref_type_in};
+use crate::printing_scope::{Scope, write_declaration_in, write_ref_type_in};
 use wasmprinter_custom::Space;
 use wasmprinter_decoder::{Table, TableType};
 use wasmprinter_print::{FoldingOutput, Output};

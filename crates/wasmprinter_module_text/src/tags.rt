@@ -3,9 +3,9 @@ ghost use Rattle.std.specs.Prelude.{codes, None};
 ghost use Rattle.wasmprinter_spec.specs.Row as row;
 ghost use Rattle.wasmprinter_spec.specs.Layout.Functions.{header_pieces};
 
-use crate::field_lines::Field;
+use crate::field_trait::Field;
 use crate::func_and_tag_headers::write_tag_header;
-use crate::module_scope::Scope;
+use crate::printing_scope::Scope;
 use wasmprinter_decoder::Tag;
 use wasmprinter_print::FoldingOutput;
 

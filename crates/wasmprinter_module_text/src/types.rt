@@ -7,7 +7,7 @@ ghost use Rattle.wasmprinter_spec.specs.Layout.Types.{member_pieces, group_piece
 ghost use Rattle.wasmprinter_flat.specs.OpenLabels.LabelState.{names_of};
 ghost use Rattle.wasmprinter_module_text.specs.TypeLines.{listed_pieces};
 
-use crate::module_scope::{FIELD_NESTING, Scope, write_type_in};
+use crate::printing_scope::{FIELD_NESTING, Scope, write_type_in};
 use wasmprinter_decoder::TypeGroup;
 use wasmprinter_ops::composite_types::SubType;
 use wasmprinter_print::Output;

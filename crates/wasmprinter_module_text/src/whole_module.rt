@@ -8,7 +8,7 @@ ghost use Rattle.wasmprinter_flat.specs.OpenLabels.LabelState.{names_of};
 ghost use Rattle.wasmprinter_module_text.specs.Scopes.{scope_view};
 ghost use Rattle.wasmprinter_module_text.specs.Sections.{sections_parts, whole_parts, Folds};
 
-use crate::module_scope::{ModuleTypes, Scope};
+use crate::printing_scope::{ModuleTypes, Scope};
 use crate::section_fields::write_fields_of;
 use crate::write_customs;
 use wasmprinter_decoder::{ExternKind, Fields, Module, SectionKind};

@@ -3,8 +3,8 @@
 #![tactic(auto)]
 
 pub mod expected_calls;
-pub mod module_from_parts;
 pub mod modules;
+pub mod modules_and_texts_from_parts;
 mod recorder;
 pub mod sections;
 mod text_comparison;

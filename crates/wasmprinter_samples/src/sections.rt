@@ -1,7 +1,7 @@
 //! Sections from which tests assemble modules (section 5.5.2 of the standard), and modules of nested blocks.
 
 use crate::PREAMBLE;
-use crate::module_from_parts::{NO_PARAMS, ONE_FUNCTION, Part, build};
+use crate::modules_and_texts_from_parts::{NO_PARAMS, ONE_FUNCTION, Part, build};
 use std::alloc::{AllocError, Global};
 
 /// The id of custom sections.

@@ -4,8 +4,8 @@ use Rattle.wasmprinter_spec.specs.Character.{class}
 use Rattle.wasmprinter_spec.specs.Names.Content.{group_of}
 use Rattle.wasmprinter_spec.specs.Quoted.{all_id_chars}
 use Rattle.wasmprinter_custom.specs.Spaces.{id_of}
-use Rattle.wasmprinter_custom.specs.declared.space.Space.{Space}
-use Rattle.wasmprinter_custom.specs.declared.space.Space.TheVariants.{Func, Local, Label, Types, Table, Memory, Global, Elem, Data, Field, Tag}
+use Rattle.wasmprinter_custom.specs.declared.index_space.Space.{Space}
+use Rattle.wasmprinter_custom.specs.declared.index_space.Space.TheVariants.{Func, Local, Label, Types, Table, Memory, Global, Elem, Data, Field, Tag}
 
 -- The word for the items of an index space consists of identifier characters.
 pub word-runs : (space : Space) → all_id_chars (group_of (id_of space)) ≡ true

@@ -9,7 +9,7 @@ use Rattle.wasmprinter_spec.specs.Layout.Types.{struct_field_pieces}
 use Rattle.wasmprinter_custom.specs.Spaces.{id_of, outer_of}
 use Rattle.wasmprinter_custom.specs.Views.{name_at}
 use Rattle.wasmprinter_custom.specs.declared.item_identifiers.Identifiers.{Identifiers}
-use Rattle.wasmprinter_custom.specs.declared.space.Space.{Space}
+use Rattle.wasmprinter_custom.specs.declared.index_space.Space.{Space}
 
 -- The identifier of an item of an index space. It computes to a lookup in `names_of_identifiers`.
 abbrev pub item_of : Identifiers → Space → ℕ → ℕ → Option Named

@@ -3,7 +3,7 @@ ghost use Rattle.std.specs.Prelude.{[], ◌∷◌, ◌++◌, codes, decimal, tru
 ghost use Rattle.wasmprinter_spec.specs.Call.{Text, Comment};
 ghost use Rattle.wasmprinter_spec.specs.Piece.{IndexComment, BlockComment, LineComment, calls_in_style};
 
-use crate::numbers::write_decimal_between;
+use crate::integers::write_decimal_between;
 use wasmprinter_print::{Output, Style};
 
 /// Writes a text between two others.

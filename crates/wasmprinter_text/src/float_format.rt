@@ -4,7 +4,7 @@ ghost use Rattle.wasmprinter_spec.specs.Float.{double, bias, greatest_exponent, 
 ghost use Rattle.wasmprinter_spec.specs.FloatText.{digit_count, filled_fraction, shift, shifted_fraction};
 ghost use Rattle.wasmprinter_text.specs.Formats.{width_of};
 
-use crate::numbers::power;
+use crate::integers::power;
 
 /// A floating-point format.
 #[derive(Clone, Copy)]

@@ -10,7 +10,7 @@ ghost use Rattle.wasmprinter_text.specs.Formats.{width_of};
 ghost use Rattle.wasmprinter_text.specs.Numbers.{letter_p};
 
 use crate::float_format::Format;
-use crate::numbers::{power, write_decimal, write_digit, write_hexadecimal};
+use crate::integers::{power, write_decimal, write_digit, write_hexadecimal};
 use wasmprinter_print::{Output, Style};
 
 /// Writes the hexadecimal digits of the number `n / 16 ^ count` after the point, up to the last digit that is not

@@ -7,7 +7,7 @@ ghost use Rattle.wasmprinter_spec.specs.Piece.{Identifier, NameAnnotation};
 ghost use Rattle.wasmprinter_spec.specs.Quoted.{all_id_chars, is_id, quoted_text};
 ghost use Rattle.wasmprinter_text.specs.Numbers.{dollar};
 
-use crate::numbers::write_decimal;
+use crate::integers::write_decimal;
 use crate::parens_and_words::write_in_style;
 use crate::strings::{write_chars, write_in_quotes};
 use wasmprinter_custom::is_id;

@@ -7,7 +7,7 @@ ghost use Rattle.wasmprinter_spec.specs.Types.{limits_of};
 ghost use Rattle.wasmprinter_spec.specs.Piece.{Word, after_spaces};
 ghost use Rattle.wasmprinter_spec.specs.Layout.Limits.{max_words, limits_pieces};
 
-use crate::numbers::{power, write_decimal, write_decimal_between, write_hexadecimal_between};
+use crate::integers::{power, write_decimal, write_decimal_between, write_hexadecimal_between};
 use wasmprinter_print::{Output, Style};
 
 /// Writes a space and the maximum, or nothing if there is none.

@@ -6,7 +6,7 @@ ghost use Rattle.wasmprinter_spec.specs.Piece.{Begin, EndLine, Break, most_inden
 ghost use Rattle.wasmprinter_spec.specs.Layout.Groups.{close};
 ghost use Rattle.wasmprinter_print.specs.OutputLaws.{Closed, groups, close_at};
 
-use crate::numbers::{hexadecimal_len, write_hexadecimal};
+use crate::integers::{hexadecimal_len, write_hexadecimal};
 use wasmprinter_print::{Output, Style};
 
 /// The number of characters to which a place is padded with spaces.

@@ -8,7 +8,7 @@ ghost use Rattle.wasmprinter_spec.specs.Piece.{Quoted, QuotedBytes, calls_in_sty
 ghost use Rattle.wasmprinter_spec.specs.Quoted.{is_plain, char_text, byte_text, quoted_text, quoted_bytes};
 ghost use Rattle.wasmprinter_text.specs.Numbers.{backslash, buffer_len, widest, chunk_len};
 
-use crate::numbers::{hex_digit, write_digit, write_hexadecimal};
+use crate::integers::{hex_digit, write_digit, write_hexadecimal};
 use wasmprinter_print::{Output, Style};
 
 /// The maximum number of bytes of a quoted string that one call writes.

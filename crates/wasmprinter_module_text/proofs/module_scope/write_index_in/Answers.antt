@@ -1,4 +1,0 @@
-use Rattle.wasmprinter_module_text.proofs.module_scope.write_index_in.Goals as goal
-
-pub returns : goal.returns
-returns g c = rw (c.from.ensures, c.identifiers.ensures.items c.args.space c.args.index) at c.write_index_of.ensures

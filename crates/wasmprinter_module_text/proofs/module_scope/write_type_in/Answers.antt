@@ -1,4 +1,0 @@
-use Rattle.wasmprinter_module_text.proofs.module_scope.write_type_in.Goals as goal
-
-pub returns : goal.returns
-returns g c = rw c.identifiers.ensures.all at c.write_type_field.ensures
