@@ -1,5 +1,5 @@
 -- Each message is one line.
-use Rattle.std.specs.Prelude.{◌≡◌, ℕ, ◌+◌, ◌/◌, ◌%◌, ◌<◌, ◌≤◌, zero, suc, List, [], ◌∷◌, ◌++◌, flat_map, chars, encode_utf8_all, Bool, true, false, cond, ◌&&◌, ◌==◌, nat_lt, nat_le, codes, decimal, if◌then◌else◌}
+use Rattle.std.specs.Prelude.{◌≡◌, ℕ, ◌+◌, ◌/◌, ◌%◌, ◌<◌, ◌≤◌, zero, suc, List, [], ◌∷◌, ◌++◌, map, flat_map, chars, encode_utf8_all, Bool, true, false, cond, ◌&&◌, ◌==◌, nat_lt, nat_le, codes, decimal, if◌then◌else◌}
 use Rattle.std.specs.Char.{is_control, digit_char}
 use Rattle.std.specs.Char.Escape.{short_escape, hex_digit_at, escape_unicode, escape_default}
 use Rattle.std.specs.Fmt.{digit_glyph, digits_onto, digits}
@@ -86,25 +86,18 @@ digit_between false d h = printable_between (87 + d) (omega arith) (omega arith)
 hex_digit : (p c : ℕ) → is_printable (hex_digit_at p c) ≡ true
 hex_digit p c = digit_between (nat_lt (c / p % 16) 10) (c / p % 16) (mod_below (c / p) 16 (omega arith))
 
+hex_digits : (places : List ℕ) (c : ℕ) → IsPrintable (map (λ p. hex_digit_at p c) places ++ 125 ∷ [])
+hex_digits [] c = refl
+hex_digits (p ∷ places) c = first_then (hex_digit_at p c) (map (λ q. hex_digit_at q c) places ++ 125 ∷ []) (hex_digit p c) (hex_digits places c)
+
 unicode : (c : ℕ) → IsPrintable (escape_unicode c)
 unicode c =
-    let d0 = hex_digit 1 c in
-    let d1 = hex_digit 0x10 c in
-    let d2 = hex_digit 0x100 c in
-    let d3 = hex_digit 0x1000 c in
-    let d4 = hex_digit 0x1_0000 c in
-    let d5 = hex_digit 0x10_0000 c in
-    let one : IsPrintable (hex_digit_at 1 c ∷ 125 ∷ []) = first_then _ _ d0 refl in
-    let two : IsPrintable (hex_digit_at 0x10 c ∷ hex_digit_at 1 c ∷ 125 ∷ []) = first_then _ _ d1 one in
-    let three : IsPrintable (hex_digit_at 0x100 c ∷ hex_digit_at 0x10 c ∷ hex_digit_at 1 c ∷ 125 ∷ []) = first_then _ _ d2 two in
-    let four : IsPrintable (hex_digit_at 0x1000 c ∷ hex_digit_at 0x100 c ∷ hex_digit_at 0x10 c ∷ hex_digit_at 1 c ∷ 125 ∷ []) = first_then _ _ d3 three in
-    let five : IsPrintable (hex_digit_at 0x1_0000 c ∷ hex_digit_at 0x1000 c ∷ hex_digit_at 0x100 c ∷ hex_digit_at 0x10 c ∷ hex_digit_at 1 c ∷ 125 ∷ [])
-    = first_then _ _ d4 four in
-    cond_both (nat_lt c 0x10) _ _ IsPrintable (λ _. one)
-    (λ _. cond_both (nat_lt c 0x100) _ _ IsPrintable (λ _. two)
-    (λ _. cond_both (nat_lt c 0x1000) _ _ IsPrintable (λ _. three)
-    (λ _. cond_both (nat_lt c 0x1_0000) _ _ IsPrintable (λ _. four)
-    (λ _. cond_both (nat_lt c 0x10_0000) _ _ IsPrintable (λ _. five) (λ _. first_then _ _ d5 five)))))
+    cond_both (nat_lt c 0x10) _ _ IsPrintable (λ _. hex_digits (1 ∷ []) c)
+    (λ _. cond_both (nat_lt c 0x100) _ _ IsPrintable (λ _. hex_digits (0x10 ∷ 1 ∷ []) c)
+    (λ _. cond_both (nat_lt c 0x1000) _ _ IsPrintable (λ _. hex_digits (0x100 ∷ 0x10 ∷ 1 ∷ []) c)
+    (λ _. cond_both (nat_lt c 0x1_0000) _ _ IsPrintable (λ _. hex_digits (0x1000 ∷ 0x100 ∷ 0x10 ∷ 1 ∷ []) c)
+    (λ _. cond_both (nat_lt c 0x10_0000) _ _ IsPrintable (λ _. hex_digits (0x1_0000 ∷ 0x1000 ∷ 0x100 ∷ 0x10 ∷ 1 ∷ []) c)
+    (λ _. hex_digits (0x10_0000 ∷ 0x1_0000 ∷ 0x1000 ∷ 0x100 ∷ 0x10 ∷ 1 ∷ []) c)))))
 
 escape : (c : ℕ) → IsPrintable (escape_default c)
 escape c =
@@ -136,7 +129,7 @@ digits_printable zero base n acc low high h = h
 digits_printable (suc k) base n acc low high h =
     let d = mod_below n base low in
     let next : IsPrintable (digit_glyph false (n % base) ∷ acc)
-    = first_then _ acc (digit_between (nat_lt (n % base) 10) (n % base) (omega (arith, d))) h in
+    = first_then (digit_glyph false (n % base)) acc (digit_between (nat_lt (n % base) 10) (n % base) (omega (arith, d))) h in
     cond_both (n / base == 0) _ _ IsPrintable (λ _. next) (λ _. digits_printable k base (n / base) (digit_glyph false (n % base) ∷ acc) low high next)
 
 number : (base n : ℕ) → 0 < base → base ≤ 16 → IsPrintable (digits base false n)

@@ -9,4 +9,4 @@ invariant-loop-part g l =
     (escape_end l.part-iterator ≤ 10)
     × (IsPlainFormatter l.fn.f
     → (done : List ℕ) × HasWritten g.W.Write.write_str_gives l.fn.f done l.f
-    × (done ++ encode_utf8_all (escape_rest l.part-iterator) ≡ encode_utf8_all (escape_default l.c)))
+    × (done ++ encode_utf8_all (escape_rest l.part-iterator) ≡ encode_utf8_all (escape_default l.fn.c)))
