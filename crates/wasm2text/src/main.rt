@@ -2,6 +2,7 @@
 #![tactic(auto)]
 
 mod cause;
+mod escaped;
 mod help;
 mod messages;
 mod misuse;

@@ -350,6 +350,35 @@ fn reports_wrong_command_lines(rt: HostRuntime) -> Result<(), Fail> {
     Ok(())
 }
 
+/// Names and words with control characters and a backslash.
+const ESCAPES: &[Row] = &[
+    (
+        &["a\n\t\r\u{1b}[31m\u{7f}\u{9b}\\é'\".wasm"],
+        1,
+        "",
+        "wasm2text: a\\n\\t\\r\\u{1b}[31m\\u{7f}\\u{9b}\\\\é'\".wasm: no such file or directory\n",
+    ),
+    (
+        &["-\u{1b}[2J"],
+        2,
+        "",
+        "wasm2text: unknown option '-\\u{1b}[2J'. Try 'wasm2text --help'.\n",
+    ),
+    (
+        &["--indent=\0\n"],
+        2,
+        "",
+        "wasm2text: option '--indent' can't have the value '\\u{0}\\n'. Try 'wasm2text --help'.\n",
+    ),
+];
+
+#[test]
+fn escapes_names_and_words(rt: HostRuntime) -> Result<(), Fail> {
+    let other = first_other_row(rt.alloc(), ESCAPES)?;
+    assert!(rt; other == None, "row {other:?}");
+    Ok(())
+}
+
 /// The names of all options.
 const NAMES: &[&str] = &[
     "-p, --print-offsets ",
