@@ -1,9 +1,9 @@
 -- What a run did, by its request.
 use Rattle.std.specs.Prelude.{◌≡◌, ℕ, List, Option, Some, None, unwrap_or}
-use Rattle.std.proofs.Common.{refl, sym, ap, ◌∙◌, subst}
-use Rattle.wasm2text.specs.Arguments.{Request}
+use Rattle.std.proofs.Common.{sym, ap, ◌∙◌, subst, inl}
+use Rattle.wasm2text.specs.Arguments.{Argument, IsCommandLine, Request, request_of, with_input}
 use Rattle.wasm2text.specs.Messages.{Failure}
-use Rattle.wasm2text.specs.Outcome.{System, Run, Reads, series, choice_of, own_text, WritesText, PrintsEach, PrintsToFile, CarriesOut}
+use Rattle.wasm2text.specs.Outcome.{System, Run, Reads, series, choice_of, own_text, WritesText, PrintsEach, PrintsToFile, CarriesOut, Serves, Performs, HasOutcome}
 
 clash : {A : Type 0} {x : A} (o : Option A) → o ≡ Some x → o ≡ None → ⊥
 clash {A} {x} o e h = let both : ◌≡◌ {A = Option A} (Some x) None = sym e ∙ h in cc
@@ -48,3 +48,13 @@ module _ {I C O F V : Type 0} (s : System I C O F V) (request : Request) (run : 
           (same request.output e o) prints,
     );
   }
+
+-- The run did what an equal request asks for.
+pub serves_same : {I C O F V : Type 0} (s : System I C O F V) (run : Run I C O V) (request other : Request) → request ≡ other → Serves s request run →
+    Serves s other run
+serves_same s run request other e done = subst (λ r. Serves s r run) e done
+
+-- The words are a command line, and the run did what it asks for.
+pub performs : {I C O F V : Type 0} (s : System I C O F V) (words : List (List ℕ)) (run : Run I C O V) (arguments : List Argument) (request : Request) →
+    IsCommandLine arguments words → request ≡ request_of arguments → Performs s (with_input request) run → HasOutcome s words run
+performs s words run arguments request read e done = inl (arguments, read, subst (λ r. Performs s (with_input r) run) e done)

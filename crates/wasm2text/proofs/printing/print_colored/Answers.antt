@@ -21,7 +21,7 @@ returns-in-Ok g c =
       [],
       refl,
       inl (
-        (refl, c.in-Ok.text.items, c.in-Ok.ensures.printed),
+        (refl, (c.in-Ok.text.items, c.in-Ok.ensures.printed)),
         fails_at_once w c.args.out c.deref.result.now c.in-Err-write_bytes.error c.write_bytes.new.self c.in-Err-write_bytes.ensures,
       ),
     )

@@ -1,13 +1,13 @@
 -- The words are a command line, or have an error.
-use Rattle.std.proofs.Common.{refl, ap, subst, inl, inr}
-use Rattle.wasm2text.specs.Arguments.{with_input}
-use Rattle.wasm2text.specs.Outcome.{Performs}
+use Rattle.std.proofs.Common.{map, string_bytes, refl, inr}
+use Rattle.wasm2text.specs.Parsing.{request_read}
+use Rattle.wasm2text.proofs.Runs.{performs}
 use Rattle.wasm2text.proofs.program.run.Goals as goal
 
 pub returns-in-Ok : goal.returns-in-Ok
 returns-in-Ok g c =
     let parsed = c.in-Ok.ensures in
-    inl (parsed.0, parsed.1, subst (λ r. Performs _ r _) (ap with_input parsed.2) c.perform.ensures)
+    performs _ (map string_bytes c.args.words.now) _ parsed.0 (request_read c.in-Ok.request) parsed.1 parsed.2 c.perform.ensures
 
 pub returns-in-Err : goal.returns-in-Err
 returns-in-Err g c = inr (
