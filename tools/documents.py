@@ -57,7 +57,7 @@ def mistakes(tree):
     """Returns mistakes: a file, its text with the mistake, the check that finds it, and what is passed to the check."""
     made = []
     for page, sources in SOURCES.items():
-        made += [(path, tree.text(path).replace("(", "[").replace(":", ";"), block_faults, page) for path in sources]
+        made += [(path, tree.text(path).translate(str.maketrans("(:=", "[;~")), block_faults, page) for path in sources]
         for number, lines in blocks(tree.lines(page)):
             changes = [(number - 1 + len(lines) // 2, r"(?=\S)", "x")]
             changes += [(at, r"(?<=\\0)asm", "bsm") for at in range(number - 1, number - 1 + len(lines))]

@@ -6,52 +6,8 @@
 set -eu
 cd "$(dirname "$0")/.."
 tools=$PWD/tools
-work=$(mktemp -d)
-trap 'rm -rf "$work"' EXIT
-cp crates/printwasm/out/printwasm "$work/printwasm"
-program=$work/printwasm
-cd "$work"
-cases=0
-failed=0
-
-# colored: replaces marks in standard input by ANSI escape sequences: {K} keyword, {N} name, {T} type, {L} literal, {C} comment, {R} reset.
-colored() {
-    escape=$(printf '\033')
-    sed "s/{K}/{R}$escape[1m$escape[38;5;11m/g; s/{N}/{R}$escape[35m/g; s/{T}/{R}$escape[1m$escape[38;5;10m/g
-        s/{L}/{R}$escape[31m/g; s/{C}/{R}$escape[36m/g; s/{R}/$escape[0m/g"
-}
-
-# started STATUS COMMAND..: runs the command, and checks that it ends with the status, that its standard output equals the file `out`, and
-# that its standard error equals the file `err`.
-started() {
-    expected=$1
-    shift
-    cases=$((cases + 1))
-    status=0
-    timeout 60 "$@" >written 2>reported || status=$?
-    if [ "$status" != "$expected" ] || ! cmp -s out written || ! cmp -s err reported; then
-        echo "program: $*: status $status, expected $expected. Differences of the output:"
-        diff out written || true
-        diff err reported || true
-        failed=$((failed + 1))
-    fi
-}
-
-# case_of STATUS WORD..: runs the program with these arguments, and checks the same.
-case_of() {
-    expected=$1
-    shift
-    started "$expected" "$program" "$@"
-}
-
-# as_user STATUS FILE: runs the program on a file as a user other than root, and checks the same.
-as_user() {
-    if [ "$(id -u)" = 0 ]; then
-        started "$1" setpriv --reuid=65534 --regid=65534 --clear-groups "$program" "$2"
-    else
-        started "$1" "$program" "$2"
-    fi
-}
+. tools/common/cases.sh
+start_cases printwasm "${1:-crates/printwasm/out/printwasm}"
 
 # the identity function, with an export
 printf '\000asm\001\000\000\000\001\006\001\140\001\177\001\177\003\002\001\000\007\005\001\001f\000\000\012\006\001\004\000\040\000\013' \
@@ -68,7 +24,6 @@ echo "error: the file can't be read" >err
 case_of 1 --offsets --skeleton --name-unnamed --fold --color missing.wasm
 
 # a file without permissions, and one that fails after all of its bytes were read
-chmod 755 "$work" printwasm
 cp same.wasm locked.wasm
 chmod 0 locked.wasm
 as_user 1 locked.wasm
@@ -167,7 +122,7 @@ case_of 0 same.wasm --color --fold --name-unnamed --skeleton --offsets
 # writing to standard output fails
 : >out
 echo "error: the printer failed" >err
+# shellcheck disable=SC2016 # the inner shell expands this
 started 1 sh -c '"$0" same.wasm >/dev/full' "$program"
 
-echo "program: $((cases - failed)) of $cases cases as typed"
-[ "$failed" = 0 ]
+end_cases

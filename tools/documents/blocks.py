@@ -8,6 +8,7 @@ ROWS = "crates/check_rows/data/"
 SOURCES = {
     "README.md": (ROWS + "modules_names.txt", ROWS + "fold_modules.txt", "bindings/c/example.c"),
     "docs/LIBRARY.md": ("crates/tests_modules/src/example.rt", "tools/program.sh"),
+    "docs/WASM2TEXT.md": ("tools/wasm2text.sh",),
     "bindings/README.md": (
         "bindings/c/example.c",
         "bindings/c/preview.c",

@@ -11,7 +11,7 @@ from growth.code_shapes import CODE_SHAPES
 from growth.module_shapes import MODULE_SHAPES
 
 HISTORY = ("CHANGELOG.md", "docs/PERF.md", "bench/slow-inputs.md", "docs/data/*")  # pages about earlier states
-PROGRAM, HEADER = "tools/program.sh", "include/wasmprinter.h"
+PROGRAM, WASM2TEXT, HEADER = "tools/program.sh", "tools/wasm2text.sh", "include/wasmprinter.h"
 WORDS = "two three four five six seven eight nine ten eleven twelve thirteen fourteen fifteen sixteen".split()
 NUMBER = rf"(?P<number>\d[\d,]*(?<!,)|(?i:{'|'.join(WORDS)}))"
 
@@ -41,7 +41,7 @@ def names_of_refusals(tree):
 def of_checks(tree):
     """Returns the numbers of tests, mutants and shapes."""
     gate, others = len(tree.matching("crates/*/must-fail/*.edit")), len(tree.matching("crates/*/mutants/*.edit"))
-    runs = len(tree.found("^(?:case_of|started|as_user) ", PROGRAM))
+    runs, others_runs = (len(tree.found(r"^(?:\w+_case|case_of|started|as_user) ", script)) for script in (PROGRAM, WASM2TEXT))
     refused, shapes = len(tree.lines("crates/failing_allocations/stdout")) - 1, len({**MODULE_SHAPES, **CODE_SHAPES})
     return [
         ("# mutants, deliberately", gate),
@@ -50,7 +50,8 @@ def of_checks(tree):
         ("# files of definitions that the checker", len(tree.matching("crates/wasmprinter_spec/proofs/*Rows.antt"))),
         (r"# tests; \d", tests(tree)),
         (r"^\| ((?:`\w+`(?:, )?)+) \| # \|", lambda match: sum(tests(tree, crate) for crate in re.findall(r"\w+", match.group(1)))),
-        ("# runs of the program", runs),
+        ("# runs of `printwasm`", runs),
+        ("runs of `printwasm`, # of `wasm2text`", others_runs),
         ("# shapes of modules, ", refused),
         ("(?:, |for )# names", names_of_refusals(tree)),
         (r"# shapes of modules \|", shapes),

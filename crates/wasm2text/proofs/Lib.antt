@@ -1,4 +1,6 @@
 -- Laws behind the contracts of the program.
+pub mod Escapes
+pub mod Lines
 pub mod Requests
 pub mod CommandLines
 pub mod Texts

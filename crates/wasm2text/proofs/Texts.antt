@@ -28,7 +28,7 @@ use Rattle.wasmprinter.proofs.TextOfFile.{component_error}
 use Rattle.wasm2text.specs.declared.cause.Cause.TheVariants.{System as Unread, Module, Output}
 use Rattle.wasm2text.specs.declared.printing.Ended.{Ended}
 use Rattle.wasm2text.specs.declared.printing.Ended.TheVariants.{Printed as Delivered, Refused, Unwritten}
-use Rattle.wasm2text.specs.Outcome.{Choice, Returns, HasTextIn, IsBeginning, Writer, writer, WritesAll, Delivers, StopsAfter, StaysBehind, Printing, printing, choice, is_late, EndsAs, EndsBy}
+use Rattle.wasm2text.specs.Outcome.{Choice, Returns, HasTextIn, IsBeginning, IsCutText, Writer, WritesAll, Delivers, StopsAfter, StaysBehind, Printing, printing, choice, is_late, EndsAs, EndsBy}
 
 -- The pieces of text that calls write.
 abbrev pieces_of : List Call → List (List ℕ)
@@ -76,14 +76,14 @@ ends_written p file wasm text s t new ended read has all (inr h) =
 
 -- If a write of the text failed, then printing the file ends with this error.
 pub ends_unwritten : {W : Type 0} (p : Printing W) (file wasm text : List ℕ) (s new : W) (ended : Ended) (error : IoError) → ended ≡ Unwritten error →
-    p.may_read file (Ok wasm) → IsBeginning p.choice.options wasm text → StopsAfter p.out s text error new → EndsAs p s file ended new
+    p.may_read file (Ok wasm) → IsCutText p.choice.colored p.choice.options wasm text → StopsAfter p.out s text error new → EndsAs p s file ended new
 ends_unwritten p file wasm text s new ended error e read begins stops =
     subst (λ x. EndsAs p s file x new) (sym e) (wasm, text, read, inl (begins, stops))
 
 -- What was written before a module was refused.
 abbrev LeavesText : {W : Type 0} → Printing W → W → List ℕ → Error → W → Type 0
 LeavesText p s wasm error t =
-    (text : List ℕ) × (is_late error ≡ false → text ≡ []) × IsBeginning p.choice.options wasm text × WritesAll p.out s text t
+    (text : List ℕ) × (is_late p.choice error ≡ false → text ≡ []) × IsBeginning p.choice.options wasm text × WritesAll p.out s text t
 
 -- If the module was refused, then printing the file ends with this cause.
 pub ends_refused : {W : Type 0} (p : Printing W) (file wasm : List ℕ) (s new : W) (ended : Ended) (error : Error) → ended ≡ Refused (Module error) →
@@ -156,7 +156,7 @@ module _ {P W : Type 0} (inner : P → W) (w : Writer W) where
   }
 
   -- A prefix of the text was written.
-  left_text : (o : Options) (may_read : List ℕ → Result (List ℕ) IoError → Type 0) (wasm : List ℕ) (s t : P) (error : Error) → is_late error ≡ true →
+  left_text : (o : Options) (may_read : List ℕ → Result (List ℕ) IoError → Type 0) (wasm : List ℕ) (s t : P) (error : Error) → is_late (choice o false) error ≡ true →
       WhilePrinting o wasm (λ placed answers. Interrupted (text_only own) s t (layout (with_color o false) answers placed)) →
       LeavesText (printing may_read (choice o false) w) (inner s) wasm error (inner t)
   left_text o may_read wasm s t error late h =
@@ -194,11 +194,11 @@ module _ {P W : Type 0} (inner : P → W) (w : Writer W) where
         (λ laid b. stops s t x laid b) left in
         subst (λ z. EndsAs plain (inner s) file ended z) (sym ends.1)
         (ends_unwritten plain file wasm puts.left.0 (inner s) (inner t) ended x ends.0 read
-        (inr (record { decoded = puts.decoded; foldable = puts.foldable; answers = puts.answers; left = (puts.left.0, puts.left.1, refl) })) puts.left.2)
+        (record { decoded = puts.decoded; foldable = puts.foldable; answers = puts.answers; left = (puts.left.0, puts.left.1, refl) }) puts.left.2)
     ends_after Memory ended new read refused component (inl same) ends =
         refuses Memory ended new read (record { refused = refused; component = component }) (nothing Memory same) ends
     ends_after Memory ended new read refused component (inr begun) ends =
-        refuses Memory ended new read (record { refused = refused; component = component }) (left_text o may_read wasm s t Memory refl begun.1) ends
+        refuses Memory ended new read (record { refused = refused; component = component }) (left_text o may_read wasm s t Memory begun.0 begun.1) ends
     ends_after (DylinkSubsection id) ended new read refused component left ends =
         refuses (DylinkSubsection id) ended new read (record { refused = refused; component = component })
         (left_text o may_read wasm s t (DylinkSubsection id) refl (up_to o wasm s t id left)) ends

@@ -2,4 +2,6 @@
 pub mod Arguments
 pub mod Messages
 pub mod Outcome
+pub mod OutputFiles
+pub mod OwnTexts
 pub mod Parsing

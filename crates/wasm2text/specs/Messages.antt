@@ -1,5 +1,8 @@
 -- The messages of the program. The texts of `--help` and `--version` are in `src/help.rt`.
-use Rattle.std.specs.Prelude.{◌≡◌, ℕ, List, [], ◌∷◌, ◌++◌, Bool, true, false, codes}
+use Rattle.std.specs.Prelude.{◌≡◌, ℕ, List, [], ◌∷◌, ◌++◌, flat_map, chars, encode_utf8_all, Bool, true, false, ◌||◌, ◌==◌, if◌then◌else◌, codes}
+use Rattle.std.specs.Char.{is_control}
+use Rattle.std.specs.Char.Escape.{backslash, escape_default}
+use Rattle.std.specs.Str.{NoCharPasses}
 use Rattle.std.specs.IoError.{error_kind}
 use Rattle.std.specs.declared.io.Error.{Error as IoError}
 use Rattle.std.specs.declared.io.ErrorKind.{ErrorKind}
@@ -39,6 +42,18 @@ cause_text (System error) = kind_name (error_kind error)
 cause_text (Module error) = error_text error
 cause_text (Output error) = codes "can't write the text: " ++ kind_name (error_kind error)
 
+-- A character of a name or a word is escaped in a message if it is a control character or a backslash.
+abbrev pub is_escaped : ℕ → Bool
+is_escaped c = is_control c || c == backslash
+
+-- A character of a name or a word in a message: escaped as by Rust's `char::escape_default`, or as it is.
+abbrev pub message_char : ℕ → List ℕ
+message_char c = if is_escaped c then escape_default c else c ∷ []
+
+-- A name or a word in a message.
+abbrev pub in_message : List ℕ → List ℕ
+in_message text = encode_utf8_all (flat_map message_char (chars text))
+
 -- The name of an option in messages.
 abbrev pub long_name : Setting → List ℕ
 long_name SetOutput = codes "--output"
@@ -47,9 +62,9 @@ long_name Color = codes "--color"
 
 -- The error of the command line, in words.
 abbrev pub misuse_text : ArgumentError → List ℕ
-misuse_text (UnknownOption word) = codes "unknown option '" ++ word.now ++ codes "'"
-misuse_text (MissingValue name) = codes "option '" ++ name.now ++ codes "' needs a value"
-misuse_text (InvalidValue setting value) = codes "option '" ++ long_name setting ++ codes "' can't have the value '" ++ value.now ++ codes "'"
+misuse_text (UnknownOption word) = codes "unknown option '" ++ in_message word.now ++ codes "'"
+misuse_text (MissingValue name) = codes "option '" ++ in_message name.now ++ codes "' needs a value"
+misuse_text (InvalidValue setting value) = codes "option '" ++ long_name setting ++ codes "' can't have the value '" ++ in_message value.now ++ codes "'"
 misuse_text Memory = codes "out of memory"
 
 -- A file that is not printed, with the cause.
@@ -59,8 +74,16 @@ pub record Failure : Type 0 where
 
 -- The line that reports that a file is not printed.
 abbrev pub failure_line : Failure → List ℕ
-failure_line failure = codes "wasm2text: " ++ (failure.name ++ (codes ": " ++ (cause_text failure.cause ++ 10 ∷ [])))
+failure_line failure = codes "wasm2text: " ++ (in_message failure.name ++ (codes ": " ++ (cause_text failure.cause ++ 10 ∷ [])))
 
 -- The line that reports an error of the command line.
 abbrev pub misuse_line : ArgumentError → List ℕ
 misuse_line error = codes "wasm2text: " ++ (misuse_text error ++ (codes ". Try 'wasm2text --help'." ++ 10 ∷ []))
+
+-- The line ends with a line feed. No character before it is a control character, so the line has no other line feed.
+abbrev pub IsLine : List ℕ → Type 0
+IsLine line = (text : List ℕ) × (line ≡ text ++ 10 ∷ []) × NoCharPasses is_control text
+
+-- Each message is one line, whatever the names and words in it are.
+abbrev pub MessagesAreLines : Type 0
+MessagesAreLines = ((failure : Failure) → IsLine (failure_line failure)) × ((error : ArgumentError) → IsLine (misuse_line error))

@@ -1,11 +1,15 @@
 //! The program `wasm2text [OPTIONS] [FILE...]`, which prints WebAssembly modules as text.
 #![tactic(auto)]
 
+#[cfg(test)]
+mod call_tests;
 mod cause;
+mod escaped;
 mod help;
 mod messages;
 mod misuse;
 mod options;
+mod output;
 #[cfg(test)]
 mod output_file_tests;
 mod parser;
@@ -23,6 +27,7 @@ use std::env::VarError;
 use std::io::{BufWriter, ErrorKind, IsTerminal};
 use std::process::ExitCode;
 use std::{env, io};
+use system::Host;
 
 fn main(rt: HostRuntime) -> ExitCode {
     let status = match start(&rt) {
@@ -45,7 +50,15 @@ fn start(rt: &HostRuntime) -> io::Result<u8> {
     let words = env::args(rt)?.skip(1).collect::<Vec<String>>(rt.alloc())?;
     let out = BufWriter::with_capacity(rt.alloc(), BUFFER_LEN, rt.stdout())?;
     let shows_colors = shows_colors(rt);
-    let (status, _) = run(rt, rt.alloc(), &words, shows_colors, out, &mut rt.stderr());
+    let (status, _, _) = run(
+        &mut Host(rt),
+        Host(rt),
+        rt.alloc(),
+        &words,
+        shows_colors,
+        out,
+        &mut rt.stderr(),
+    );
     Ok(status)
 }
 

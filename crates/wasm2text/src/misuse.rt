@@ -3,6 +3,7 @@ ghost use Rattle.std.specs.Prelude.{◌≡◌, Some};
 ghost use Rattle.wasm2text.specs.Messages.{misuse_text};
 ghost use Rattle.wasm2text.specs.declared.misuse.ArgumentError.TheVariants.{Memory};
 
+use crate::escaped::Escaped;
 use crate::options::Setting;
 use std::alloc::AllocError;
 use std::fmt;
@@ -30,10 +31,17 @@ impl fmt::Display for ArgumentError<'_> {
 
     fn fmt<W: fmt::Write>(&self, f: &mut fmt::Formatter<W>) -> fmt::Result {
         match self {
-            ArgumentError::UnknownOption(word) => write!(f, "unknown option '{word}'"),
-            ArgumentError::MissingValue(name) => write!(f, "option '{name}' needs a value"),
+            ArgumentError::UnknownOption(word) => {
+                let word = Escaped(word);
+                write!(f, "unknown option '{word}'")
+            }
+            ArgumentError::MissingValue(name) => {
+                let name = Escaped(name);
+                write!(f, "option '{name}' needs a value")
+            }
             ArgumentError::InvalidValue { setting, value } => {
                 let name = setting.long_name();
+                let value = Escaped(value);
                 write!(f, "option '{name}' can't have the value '{value}'")
             }
             ArgumentError::Memory => f.write_str("out of memory"),

@@ -1,16 +1,16 @@
 //! Printing files to a writer.
-ghost use Rattle.std.specs.Prelude.{◌≡◌, List, [], map, true, false, Result, Ok, Err, MatchResult};
+ghost use Rattle.std.specs.Prelude.{◌≡◌, List, [], None, map, true, false, Result, Ok, Err, MatchResult};
 ghost use Rattle.wasm2text.specs.Messages.{Failure};
-ghost use Rattle.wasm2text.specs.Outcome.{MayRead, Returns, writer, printing, choice, EndsAs, EndsBy, IsNoted, PrintsEach, Reports, write_failures, status_of};
+ghost use Rattle.wasm2text.specs.Outcome.{Reads, between, Returns, writer, printing, series, choice, EndsAs, EndsBy, IsNoted, PrintsEach, Reports, write_failures, status_of};
 
 use crate::cause::{Cause, is_closed_pipe};
 use crate::messages::{Messages, report};
+use crate::output::{Output, PrintOutput};
 use crate::request::STANDARD_INPUT;
 use crate::status::{FAILED, PRINTED};
-use crate::system::{Inputs, Output};
+use crate::system::Inputs;
 use std::alloc::Global;
 use std::io;
-use wasmprinter::print::PrintIoWrite;
 use wasmprinter::{Config, Error};
 
 /// How modules are printed.
@@ -35,8 +35,8 @@ pub enum Ended {
 
 /// Prints files one after the other, and returns the exit status and the writer. A file that is not printed is
 /// reported. After a failed write no file is printed.
-pub fn print_files<S: Inputs, O: Output + Drop, E: Messages>(
-    system: &S,
+pub fn print_files<I: Inputs, O: Output + Drop, E: Messages>(
+    inputs: &mut I,
     alloc: Global,
     style: Style<'_>,
     files: &[&str],
@@ -44,16 +44,16 @@ pub fn print_files<S: Inputs, O: Output + Drop, E: Messages>(
     err: &mut E,
 ) -> (u8, O)
     ensures { (failures : List Failure)
-        × PrintsEach (printing (MayRead (S.may_read system.now) (S.may_input system.now)) (choice style.entry.config.now style.entry.is_colored)
-        (writer O.takes O.flushes)) out (map (λ f. f.now) files.now) failures result.1
+        × PrintsEach (series (Reads I.reads I.reads_input) (choice style.entry.config.now style.entry.is_colored) (writer O.takes O.flushes O.uncreated))
+        inputs.old out (map (λ f. f.now) files.now) failures inputs.new result.1
         × Reports E.sends err.old failures err.new × (result.0 ≡ status_of failures) }
 {
     let mut out = out;
     let mut status = PRINTED;
     for file in files {
-        let (ended, writer) = print_file(system, alloc, style, file, out);
+        let (ended, writer) = print_file(inputs, alloc, style, file, out);
         out = writer;
-        let (last, goes_on) = note(err, file, ended);
+        let (last, goes_on) = note(err, file, &out, ended);
         status = status.max(last);
         if !goes_on {
             return (status, out);
@@ -64,9 +64,9 @@ pub fn print_files<S: Inputs, O: Output + Drop, E: Messages>(
 
 /// Reports a failure, if printing a file ended with one. Returns the exit status, and whether files are printed after
 /// this one.
-fn note<E: Messages>(err: &mut E, name: &str, ended: Ended) -> (u8, bool)
-    ensures { (failures : List Failure) × IsNoted ended name.now failures result.1 × Reports E.sends err.old failures err.new
-        × (result.0 ≡ status_of failures) }
+fn note<O: Output, E: Messages>(err: &mut E, name: &str, out: &O, ended: Ended) -> (u8, bool)
+    ensures { (failures : List Failure) × IsNoted ended name.now (O.uncreated out.now) failures result.1
+        × Reports E.sends err.old failures err.new × (result.0 ≡ status_of failures) }
 {
     match ended {
         Ended::Printed => (PRINTED, true),
@@ -74,14 +74,35 @@ fn note<E: Messages>(err: &mut E, name: &str, ended: Ended) -> (u8, bool)
             report(err, name, &cause);
             (FAILED, true)
         }
-        Ended::Unwritten(error) => (report_unwritten(err, name, error), false),
+        Ended::Unwritten(error) => (report_unwritten(err, name, out, error), false),
     }
 }
 
-/// Reports that a text can't be written, unless its reader closed the pipe. Returns the exit status.
-pub fn report_unwritten<E: Messages>(err: &mut E, name: &str, error: io::Error) -> u8
-    ensures reports { Reports E.sends err.old (write_failures name.now error) err.new }
-    ensures status { result ≡ status_of (write_failures name.now error) }
+/// Reports that a text can't be written, or that the file for it can't be created. Reports nothing if the reader of the
+/// text closed the pipe. Returns the exit status.
+pub fn report_unwritten<O: Output, E: Messages>(
+    err: &mut E,
+    name: &str,
+    out: &O,
+    error: io::Error,
+) -> u8
+    ensures reports { Reports E.sends err.old (write_failures name.now (O.uncreated out.now) error) err.new }
+    ensures status { result ≡ status_of (write_failures name.now (O.uncreated out.now) error) }
+{
+    match out.uncreated_file() {
+        Some(path) => {
+            report(err, path, &Cause::System(error));
+            FAILED
+        }
+        None => report_failed_write(err, name, error),
+    }
+}
+
+/// Reports that a text can't be written to a created file or to standard output, unless its reader closed the pipe.
+/// Returns the exit status.
+fn report_failed_write<E: Messages>(err: &mut E, name: &str, error: io::Error) -> u8
+    ensures reports { Reports E.sends err.old (write_failures name.now None error) err.new }
+    ensures status { result ≡ status_of (write_failures name.now None error) }
 {
     if is_closed_pipe(&error) {
         return PRINTED;
@@ -91,38 +112,38 @@ pub fn report_unwritten<E: Messages>(err: &mut E, name: &str, error: io::Error) 
 }
 
 /// Prints a file, and returns the writer.
-fn print_file<S: Inputs, O: Output>(
-    system: &S,
+fn print_file<I: Inputs, O: Output>(
+    inputs: &mut I,
     alloc: Global,
     style: Style<'_>,
     file: &str,
     out: O,
 ) -> (Ended, O)
-    ensures { EndsAs (printing (MayRead (S.may_read system.now) (S.may_input system.now)) (choice style.entry.config.now style.entry.is_colored)
-        (writer O.takes O.flushes)) out file.now result.0 result.1 }
+    ensures { EndsAs (printing (between (Reads I.reads I.reads_input) inputs.old inputs.new) (choice style.entry.config.now style.entry.is_colored)
+        (writer O.takes O.flushes O.uncreated)) out file.now result.0 result.1 }
 {
-    match read(system, file) {
+    match read(inputs, file) {
         Ok(wasm) => print_module(alloc, style, &wasm, out),
         Err(error) => (Ended::Refused(Cause::System(error)), out),
     }
 }
 
 /// Returns the bytes of a file, or of standard input.
-fn read<S: Inputs>(system: &S, file: &str) -> io::Result<Vec<u8>>
+fn read<I: Inputs>(inputs: &mut I, file: &str) -> io::Result<Vec<u8>>
     ensures { MatchResult result
-        (λ bytes. MayRead (S.may_read system.now) (S.may_input system.now) file.now (Ok bytes.items))
-        (λ error. MayRead (S.may_read system.now) (S.may_input system.now) file.now (Err error)) }
+        (λ bytes. Reads I.reads I.reads_input inputs.old file.now (Ok bytes.items) inputs.new)
+        (λ error. Reads I.reads I.reads_input inputs.old file.now (Err error) inputs.new) }
 {
     if file == STANDARD_INPUT {
-        system.read_input()
+        inputs.read_input()
     } else {
-        system.read_file(file)
+        inputs.read_file(file)
     }
 }
 
 /// Prints a module, and returns the writer.
 fn print_module<O: Output>(alloc: Global, style: Style<'_>, wasm: &[u8], out: O) -> (Ended, O)
-    ensures { EndsAs (printing (Returns wasm.now) (choice style.entry.config.now style.entry.is_colored) (writer O.takes O.flushes)) out [] result.0 result.1 }
+    ensures { EndsAs (printing (Returns wasm.now) (choice style.entry.config.now style.entry.is_colored) (writer O.takes O.flushes O.uncreated)) out [] result.0 result.1 }
 {
     if style.is_colored {
         print_colored(alloc, style.config, wasm, out)
@@ -133,16 +154,16 @@ fn print_module<O: Output>(alloc: Global, style: Style<'_>, wasm: &[u8], out: O)
 
 /// Prints a module without ANSI escape sequences, while its text is made. Returns the writer.
 fn print_plain<O: Output>(alloc: Global, config: &Config, wasm: &[u8], out: O) -> (Ended, O)
-    ensures { EndsAs (printing (Returns wasm.now) (choice config.now false) (writer O.takes O.flushes)) out [] result.0 result.1 }
+    ensures { EndsAs (printing (Returns wasm.now) (choice config.now false) (writer O.takes O.flushes O.uncreated)) out [] result.0 result.1 }
 {
-    let mut printer = PrintIoWrite(out);
+    let mut printer = PrintOutput(out);
     let printed = config.print(alloc, wasm, &mut printer);
     finish(printed, printer.0)
 }
 
 /// Prints a module with ANSI escape sequences. The text is complete before it is written. Returns the writer.
 fn print_colored<O: Output>(alloc: Global, config: &Config, wasm: &[u8], out: O) -> (Ended, O)
-    ensures { EndsAs (printing (Returns wasm.now) (choice config.now true) (writer O.takes O.flushes)) out [] result.0 result.1 }
+    ensures { EndsAs (printing (Returns wasm.now) (choice config.now true) (writer O.takes O.flushes O.uncreated)) out [] result.0 result.1 }
 {
     let mut out = out;
     match config.print_to_ansi(alloc, wasm) {
@@ -156,7 +177,7 @@ fn print_colored<O: Output>(alloc: Global, config: &Config, wasm: &[u8], out: O)
 
 /// Flushes a writer if the text was written to it. Returns how printing ended, and the writer.
 fn finish<O: Output>(written: Result<(), Error>, out: O) -> (Ended, O)
-    ensures { EndsBy (writer O.takes O.flushes) out written result.0 result.1 }
+    ensures { EndsBy (writer O.takes O.flushes O.uncreated) out written result.0 result.1 }
 {
     let mut out = out;
     match written {

@@ -2,16 +2,16 @@
 ghost use Rattle.std.specs.Prelude.{⊤};
 
 use crate::help::HELP;
+use crate::output::Output;
 use crate::program::run;
-use crate::system::{Inputs, Output, Outputs};
+use crate::system::{Inputs, Outputs};
 use std::alloc::Global;
 use std::io;
 use std::io::{ErrorKind, Write};
 use std::test::Fail;
 use wasmprinter_samples::{EMPTY_TEXT, IDENTITY, IDENTITY_TEXT, PREAMBLE};
 
-/// Files in memory: `empty.wasm`, `identity.wasm`, `cut.wasm`, `late.wasm`, and standard input. Reading other files
-/// fails, and so does creating a file.
+/// Files in memory, and standard input. Reading other files fails. The only file that can be created is `new.wat`.
 #[derive(Clone, Copy)]
 struct Memory {
     alloc: Global,
@@ -20,19 +20,27 @@ struct Memory {
 /// The preamble without its last byte.
 const CUT: &[u8] = b"\0asm\x01\0\0";
 
+/// A module with a section whose id does not exist.
+const UNKNOWN_SECTION: &[u8] = b"\0asm\x01\0\0\0\x0e\0";
+
+/// The preamble of a component.
+const COMPONENT: &[u8] = b"\0asm\x0d\0\x01\0";
+
 /// A module whose `dylink.0` section has subsection 9.
 const LATE: &[u8] = b"\0asm\x01\0\0\0\0\x0b\x08dylink.0\x09\0";
 
 impl Inputs for Memory {
-    ghost may_read = { λ _ _ _. ⊤ };
+    ghost reads = { λ _ _ _ _. ⊤ };
 
-    ghost may_input = { λ _ _. ⊤ };
+    ghost reads_input = { λ _ _ _. ⊤ };
 
-    fn read_file(&self, path: &str) -> io::Result<Vec<u8>> {
+    fn read_file(&mut self, path: &str) -> io::Result<Vec<u8>> {
         let bytes = match path {
             "empty.wasm" | "-empty.wasm" => PREAMBLE,
             "identity.wasm" => IDENTITY,
             "cut.wasm" => CUT,
+            "section.wasm" => UNKNOWN_SECTION,
+            "component.wasm" => COMPONENT,
             "late.wasm" => LATE,
             "locked.wasm" => return Err(io::Error::from(ErrorKind::PermissionDenied)),
             "folder" => return Err(io::Error::from(ErrorKind::IsADirectory)),
@@ -41,20 +49,24 @@ impl Inputs for Memory {
         Ok(bytes.to_vec(self.alloc)?)
     }
 
-    fn read_input(&self) -> io::Result<Vec<u8>> {
+    fn read_input(&mut self) -> io::Result<Vec<u8>> {
         Ok(PREAMBLE.to_vec(self.alloc)?)
     }
 }
 
 impl Outputs<Vec<u8>> for Memory {
-    ghost may_create = { λ _ _ _. ⊤ };
+    ghost creates = { λ _ _ _ _. ⊤ };
 
-    fn create(&self, path: &str) -> io::Result<Vec<u8>> {
+    ghost closes = { λ _ _ _. ⊤ };
+
+    fn create(&mut self, path: &str) -> io::Result<Vec<u8>> {
         match path {
             "new.wat" => Ok(Vec::new(self.alloc)),
             _ => Err(io::Error::from(ErrorKind::ReadOnlyFilesystem)),
         }
     }
+
+    fn close(&mut self, _file: Vec<u8>) {}
 }
 
 /// What a run wrote, and its status.
@@ -77,8 +89,9 @@ fn run_into<O: Output + Drop>(
         owned.push(String::from_str(alloc, word)?)?;
     }
     let mut err = Vec::new(alloc);
-    let (status, out) = run(
-        &Memory { alloc },
+    let (status, out, _) = run(
+        &mut Memory { alloc },
+        Memory { alloc },
         alloc,
         &owned,
         shows_colors,
@@ -261,6 +274,18 @@ wasm2text: locked.wasm: permission denied
 wasm2text: folder: is a directory
 ",
     ),
+    (
+        &["section.wasm"],
+        1,
+        "",
+        "wasm2text: section.wasm: malformed module at byte 0x8\n",
+    ),
+    (
+        &["component.wasm", "empty.wasm"],
+        1,
+        EMPTY_TEXT,
+        "wasm2text: component.wasm: components are not supported\n",
+    ),
     // The text before the section was written.
     (
         &["late.wasm"],
@@ -346,6 +371,35 @@ const MISUSES: &[Row] = &[
 #[test]
 fn reports_wrong_command_lines(rt: HostRuntime) -> Result<(), Fail> {
     let other = first_other_row(rt.alloc(), MISUSES)?;
+    assert!(rt; other == None, "row {other:?}");
+    Ok(())
+}
+
+/// Names and words with control characters and a backslash.
+const ESCAPES: &[Row] = &[
+    (
+        &["a\n\t\r\u{1b}[31m\u{7f}\u{9b}\\é'\".wasm"],
+        1,
+        "",
+        "wasm2text: a\\n\\t\\r\\u{1b}[31m\\u{7f}\\u{9b}\\\\é'\".wasm: no such file or directory\n",
+    ),
+    (
+        &["-\u{1b}[2J"],
+        2,
+        "",
+        "wasm2text: unknown option '-\\u{1b}[2J'. Try 'wasm2text --help'.\n",
+    ),
+    (
+        &["--indent=\0\n"],
+        2,
+        "",
+        "wasm2text: option '--indent' can't have the value '\\u{0}\\n'. Try 'wasm2text --help'.\n",
+    ),
+];
+
+#[test]
+fn escapes_names_and_words(rt: HostRuntime) -> Result<(), Fail> {
+    let other = first_other_row(rt.alloc(), ESCAPES)?;
     assert!(rt; other == None, "row {other:?}");
     Ok(())
 }

@@ -1,23 +1,16 @@
--- The files are printed to standard output or to a file.
-use Rattle.std.proofs.Common.{option_copied, refl, ap}
-use Rattle.wasm2text.proofs.Runs.{prints_out, prints_to}
+-- The files are printed, or an allocation failed.
+use Rattle.std.proofs.Common.{refl, ap, ◌∙◌, inl, inr}
+use Rattle.wasm2text.specs.Outcome.{own_text}
+use Rattle.wasm2text.proofs.Runs.{serves_same}
 use Rattle.wasm2text.proofs.program.print_request.Goals as goal
 
-pub returns-in-None : goal.returns-in-None
-returns-in-None g c e asks =
-    let printed = c.print_files.ensures in (
-      printed.0,
-      prints_out _ _ _ printed.0 asks (ap option_copied c.in-None.is) (rw (c.deref.ensures.value, e, c.is_colored.ensures) at printed.1),
-      printed.2,
-      printed.3,
-    )
+pub returns-in-Ok : goal.returns-in-Ok
+returns-in-Ok g c none =
+    let done = c.in-Ok.ensures in
+    inl (serves_same _ _ _ _ done.0 (c.print_completed.ensures done.1 (ap own_text done.0 ∙ none)))
 
-pub returns-in-Some : goal.returns-in-Some
-returns-in-Some g c e asks =
-    let printed = c.print_to_file.ensures in (
-      printed.0,
-      prints_to _ _ _ printed.0 c.in-Some.path.now asks (ap option_copied c.in-Some.is) refl
-          (rw (c.deref-in-Some.ensures.value, e, c.is_colored.ensures) at printed.1),
-      printed.2,
-      printed.3,
-    )
+pub returns-in-Err : goal.returns-in-Err
+returns-in-Err g c none = inr (
+  none,
+  record { reports = c.refuse.ensures.reports; unread = refl; uncreated = refl; silent = refl; status = c.refuse.ensures.status },
+)

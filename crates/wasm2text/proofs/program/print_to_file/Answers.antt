@@ -1,17 +1,20 @@
--- The file was created, or the failure was reported.
-use Rattle.std.proofs.Common.{◌∷◌, [], refl, inl, inr}
-use Rattle.wasm2text.specs.declared.cause.Cause.TheVariants.{System as Unread}
+-- The files are printed to a file that is not created yet.
+use Rattle.std.proofs.Common.{None, refl}
 use Rattle.wasm2text.proofs.program.print_to_file.Goals as goal
 
-pub returns-in-Ok : goal.returns-in-Ok
-returns-in-Ok g c =
-    let printed = c.print_files.ensures in
-    (printed.0, inr (c.in-Ok.file, c.print_files.result.1, c.in-Ok.ensures, printed.1), printed.2, printed.3)
-
-pub returns-in-Err : goal.returns-in-Err
-returns-in-Err g c = (
-  record { name = c.args.path.now; cause = Unread c.in-Err.error } ∷ [],
-  inl (c.in-Err.error, c.in-Err.ensures, refl),
-  c.fail.ensures.reports,
-  c.fail.ensures.status,
-)
+pub returns : goal.returns
+returns g c =
+    let printed = c.print_files-status.ensures in (
+      printed.0,
+      (
+        record { outputs = c.args.outputs; path = c.args.path; file = None },
+        c.print_files-status.result.1,
+        refl,
+        refl,
+        refl,
+        printed.1,
+        c.close.ensures,
+      ),
+      printed.2,
+      printed.3,
+    )

@@ -6,14 +6,12 @@ use Rattle.wasm2text.proofs.program.run.Goals as goal
 
 pub returns-in-Ok : goal.returns-in-Ok
 returns-in-Ok g c =
-    let prepared = c.in-Ok.ensures in
-    performs _ (map string_bytes c.args.words.now) _ prepared.0 (request_read c.in-Ok.prepared.0) prepared.1 prepared.2 (c.perform.ensures prepared.3)
+    let parsed = c.in-Ok.ensures in
+    performs _ (map string_bytes c.args.words.now) _ parsed.0 (request_read c.in-Ok.request) parsed.1 parsed.2 c.perform.ensures
 
 pub returns-in-Err : goal.returns-in-Err
-returns-in-Err g c = inr (record {
-  error = c.in-Err.error;
-  wrong = c.in-Err.ensures;
-  reports = c.refuse.ensures.reports;
-  silent = refl;
-  status = c.refuse.ensures.status;
-})
+returns-in-Err g c = inr (
+  c.in-Err.error,
+  c.in-Err.ensures,
+  record { reports = c.refuse.ensures.reports; unread = refl; uncreated = refl; silent = refl; status = c.refuse.ensures.status },
+)

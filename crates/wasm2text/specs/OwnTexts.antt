@@ -1,0 +1,39 @@
+-- The texts of `--help` and `--version`.
+use Rattle.std.specs.Prelude.{ℕ, List, [], ◌∷◌, ◌++◌, flat_map, codes}
+
+-- The lines of the help.
+abbrev pub help_lines : List (List ℕ)
+help_lines =
+    codes "Usage: wasm2text [OPTIONS] [FILE...]"
+    ∷ codes ""
+    ∷ codes "Prints WebAssembly modules as text, one after the other."
+    ∷ codes "FILE may be -, which is standard input, as is no FILE. Words after -- are files."
+    ∷ codes ""
+    ∷ codes "Options:"
+    ∷ codes "  -p, --print-offsets      Start each line with its byte offset in the module"
+    ∷ codes "      --skeleton           Leave out bodies, element items and data bytes"
+    ∷ codes "      --name-unnamed       Synthesize identifiers for items without a name"
+    ∷ codes "  -f, --fold-instructions  Print each instruction in parentheses"
+    ∷ codes "      --indent N           Indent each level by N spaces (default: 2)"
+    ∷ codes "      --color WHEN         Print in colors: auto, always or never (default: auto)"
+    ∷ codes "  -o, --output FILE        Write to FILE instead of standard output"
+    ∷ codes "  -h, --help               Print this help"
+    ∷ codes "  -V, --version            Print the version"
+    ∷ codes ""
+    ∷ codes "With --color auto, the text is in colors if standard output is a terminal,"
+    ∷ codes "NO_COLOR is unset or empty, and there is no --output."
+    ∷ codes ""
+    ∷ codes "Exit status:"
+    ∷ codes "  0  all files were printed, or the reader of the text closed the pipe"
+    ∷ codes "  1  a file was not read or not printed; the others are printed, except after"
+    ∷ codes "     a failed write; a part of the text may have been written"
+    ∷ codes "  2  the command line is wrong; nothing was printed"
+    ∷ []
+
+-- The text of `--help`. Each line ends with a line feed.
+abbrev pub help_text : List ℕ
+help_text = flat_map (λ line. line ++ codes "\n") help_lines
+
+-- The text of `--version`.
+abbrev pub version_text : List ℕ
+version_text = codes "wasm2text 0.263.0-r1\n"
