@@ -7,7 +7,9 @@ use std::alloc::{AllocError, Global};
 use wasmprinter::Config;
 use wasmprinter_samples::PREAMBLE;
 use wasmprinter_samples::modules_and_texts_from_parts::Part::{Body, Bytes, Section};
-use wasmprinter_samples::modules_and_texts_from_parts::{NO_PARAMS, ONE_FUNCTION, Parts, add_parts, build};
+use wasmprinter_samples::modules_and_texts_from_parts::{
+    NO_PARAMS, ONE_FUNCTION, Parts, add_parts, build,
+};
 use wasmprinter_samples::sections::{IMPORT, TAG, TYPE};
 
 /// The parts before the code section of a module with an operator alone: a function without parameters.
