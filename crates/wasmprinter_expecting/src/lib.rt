@@ -3,12 +3,12 @@
 #![tactic(auto)]
 
 mod calls_comparison;
+mod expected_text_or_refusal;
 mod option_sets;
-mod refusals_and_expected_results;
 
 pub use calls_comparison::{CallsRow, expect_calls, expect_each_calls, expect_recorded};
 pub use option_sets::Options;
-pub use refusals_and_expected_results::{Expected, Refusal, expect_result};
+pub use expected_text_or_refusal::{Expected, Refusal, expect_result};
 use std::alloc::Global;
 use std::test::Fail;
 use wasmprinter::print::{Ansi, PrintTermcolor};
