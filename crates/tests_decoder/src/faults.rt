@@ -9,7 +9,7 @@ use std::test::Fail;
 use wasmprinter_bytes::cursor::Cursor;
 use wasmprinter_bytes::{Error, Malformed};
 use wasmprinter_ops::expression::Expression;
-use wasmprinter_ops::opcodes_and_shapes::{Listed, Role, Shape, Space};
+use wasmprinter_ops::opcode_shapes_arities_and_roles::{Listed, Role, Shape, Space};
 use wasmprinter_ops::operator::read_operator;
 
 /// The place of the first byte.

@@ -8,7 +8,7 @@ use wasmprinter::wasm::{
     BlockType, Body, Catch, Immediates, Module, Opcode, Operator, OperatorsReader, ValType, decode,
 };
 use wasmprinter_decoder::{BodyParts, Export, ExternKind, Fields, LocalEntry, TypeGroup};
-use wasmprinter_ops::opcodes_and_shapes::Listed;
+use wasmprinter_ops::opcode_shapes_arities_and_roles::Listed;
 use wasmprinter_samples::modules_and_texts_from_parts::Part::Bytes;
 use wasmprinter_samples::modules_and_texts_from_parts::{Parts, build};
 use wasmprinter_samples::{CONTROL, EVERYTHING, PREAMBLE};

@@ -52,7 +52,7 @@ pub mod wasm {
     pub use wasmprinter_ops::block_immediates::{BlockType, Catch, Catches, Targets};
     pub use wasmprinter_ops::expression::OperatorsReader;
     pub use wasmprinter_ops::mem_arg::MemArg;
-    pub use wasmprinter_ops::opcodes_and_shapes::Opcode;
+    pub use wasmprinter_ops::opcode_shapes_arities_and_roles::Opcode;
     pub use wasmprinter_ops::operator::{Immediates, Operator};
     pub use wasmprinter_ops::{HeapType, RefType, ValType, ValTypes};
 }

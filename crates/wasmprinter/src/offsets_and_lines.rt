@@ -1,4 +1,5 @@
-//! Printing a module as lines, appended to a string.
+//! Printing a module as lines, each with its byte offset in the module: `Config::offsets_and_lines` returns an iterator,
+//! and `Config::print_with_line_starts` the line starts.
 ghost use Rattle.std.specs.Prelude.{◌↔◌, IfOk, IfErr, IsErrOf, string_bytes};
 ghost use Rattle.wasmprinter_spec.specs.Binary.{IsComponent};
 ghost use Rattle.wasmprinter_writers.specs.Cuts.{AreLineStarts};

@@ -7,8 +7,8 @@ mod expected_text_or_refusal;
 mod option_sets;
 
 pub use calls_comparison::{CallsRow, expect_calls, expect_each_calls, expect_recorded};
-pub use option_sets::Options;
 pub use expected_text_or_refusal::{Expected, Refusal, expect_result};
+pub use option_sets::Options;
 use std::alloc::Global;
 use std::test::Fail;
 use wasmprinter::print::{Ansi, PrintTermcolor};

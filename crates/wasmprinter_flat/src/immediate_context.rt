@@ -11,7 +11,7 @@ ghost use Rattle.wasmprinter_flat.specs.Contexts.{names_in, labels_around, opera
 use crate::open_labels::OpenLabels;
 use crate::operators::Setting;
 use wasmprinter_custom::{Identifier, Identifiers, Space as NamedSpace};
-use wasmprinter_ops::opcodes_and_shapes::{Role, Space};
+use wasmprinter_ops::opcode_shapes_arities_and_roles::{Role, Space};
 use wasmprinter_text::type_use::Signatures;
 
 /// The context in which an operator's immediates are printed.

@@ -13,10 +13,10 @@ use crate::index_immediates::{
 };
 use crate::label_immediates::{write_label, write_labels};
 use crate::memory_immediates::write_mem_arg;
-use crate::type_immediates::{write_cast, write_heap, write_ref, write_select};
+use crate::val_and_ref_type_immediates::{write_cast, write_heap, write_ref, write_select};
 use crate::vector_immediates::{write_lane, write_lanes, write_vector};
 use wasmprinter_ops::RefType;
-use wasmprinter_ops::opcodes_and_shapes::{Shape, Space};
+use wasmprinter_ops::opcode_shapes_arities_and_roles::{Shape, Space};
 use wasmprinter_ops::operator::Immediates;
 use wasmprinter_print::Output;
 use wasmprinter_text::integers::write_signed;

@@ -11,7 +11,7 @@ ghost use Rattle.wasmprinter_ops.specs.Shapes.{space_view};
 ghost use Rattle.wasmprinter_flat.specs.Contexts.{names_in, setting_in};
 
 use crate::immediate_context::Context;
-use wasmprinter_ops::opcodes_and_shapes::Space;
+use wasmprinter_ops::opcode_shapes_arities_and_roles::Space;
 use wasmprinter_print::Output;
 use wasmprinter_text::declarations_and_indices::write_index;
 use wasmprinter_text::integers::write_number_word;

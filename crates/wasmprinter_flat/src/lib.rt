@@ -11,5 +11,5 @@ mod label_immediates;
 mod memory_immediates;
 pub mod open_labels;
 pub mod operators;
-mod type_immediates;
+mod val_and_ref_type_immediates;
 mod vector_immediates;

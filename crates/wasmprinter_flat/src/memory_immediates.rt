@@ -8,7 +8,7 @@ ghost use Rattle.wasmprinter_flat.specs.Contexts.{setting_in};
 use crate::immediate_context::Context;
 use crate::index_immediates::write_default_index;
 use wasmprinter_ops::mem_arg::MemArg;
-use wasmprinter_ops::opcodes_and_shapes::Space;
+use wasmprinter_ops::opcode_shapes_arities_and_roles::Space;
 use wasmprinter_print::Output;
 use wasmprinter_text::integers::{power, write_numbered_word};
 use wasmprinter_text::parens_and_words::write_space;

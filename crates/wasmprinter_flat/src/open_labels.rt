@@ -20,7 +20,7 @@ use crate::open_labels::label_shadowing::{NameAt, NamedBlocks};
 use std::alloc::{AllocError, Global};
 use std::marker::Model;
 use wasmprinter_custom::{Identifier, Identifiers, NameEntries, Space};
-use wasmprinter_ops::opcodes_and_shapes::Role;
+use wasmprinter_ops::opcode_shapes_arities_and_roles::Role;
 
 /// The meaning of a label index to a printer.
 #[derive(Clone, Copy, Debug, PartialEq, Eq)]

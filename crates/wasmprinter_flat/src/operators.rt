@@ -11,7 +11,7 @@ use crate::immediates::write_immediates_by_shape;
 use crate::open_labels::OpenLabels;
 use wasmprinter_custom::{FunctionHints, Hint};
 use wasmprinter_ops::expression::Expression;
-use wasmprinter_ops::opcodes_and_shapes::{Listed, Role};
+use wasmprinter_ops::opcode_shapes_arities_and_roles::{Listed, Role};
 use wasmprinter_ops::operator::Operator;
 use wasmprinter_print::Output;
 use wasmprinter_text::hints::write_hint_annotation;

@@ -5,8 +5,8 @@ use Rattle.wasmprinter_spec.specs.Row.{Role}
 use Rattle.wasmprinter_spec.specs.Labels.{labels_after}
 use Rattle.wasmprinter_spec.specs.Folding.Arities.{OperandCounts}
 use Rattle.wasmprinter_spec.specs.Folding.Tree.{NodesOf}
-use Rattle.wasmprinter_ops.specs.declared.opcodes_and_shapes.Role.{Role as OpsRole}
-use Rattle.wasmprinter_ops.specs.declared.opcodes_and_shapes.Role.TheVariants as ops
+use Rattle.wasmprinter_ops.specs.declared.opcode_shapes_arities_and_roles.Role.{Role as OpsRole}
+use Rattle.wasmprinter_ops.specs.declared.opcode_shapes_arities_and_roles.Role.TheVariants as ops
 use Rattle.wasmprinter_ops.specs.Shapes.{role_view}
 use Rattle.wasmprinter_fold.specs.declared.nodes.NodeText.{NodeText}
 use Rattle.wasmprinter_fold.specs.declared.nodes.Node.{Node}

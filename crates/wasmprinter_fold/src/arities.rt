@@ -6,16 +6,16 @@ ghost use Rattle.wasmprinter_fold.specs.Counted.{counts_view};
 
 pub mod block_types;
 pub mod counts;
+pub mod function_and_tag_types;
 pub mod label_arities;
 mod referenced_items;
 mod resolve_arity;
-pub mod types_by_index;
 
 use crate::arities::counts::{Counts, NOTHING};
+use crate::arities::function_and_tag_types::FunctionAndTagTypes;
 use crate::arities::label_arities::LabelCounts;
 use crate::arities::resolve_arity::counts_by_arity;
-use crate::arities::types_by_index::TypesByIndex;
-use wasmprinter_ops::opcodes_and_shapes::Listed;
+use wasmprinter_ops::opcode_shapes_arities_and_roles::Listed;
 use wasmprinter_ops::operator::Operator;
 
 /// Returns the number of operands that an operator takes and of results that it gives. `labels` are those open
@@ -25,7 +25,7 @@ use wasmprinter_ops::operator::Operator;
 /// Counts saturate at the greatest 32-bit number. An operator takes and gives nothing if the item that it refers to
 /// is unknown. A block takes nothing, whatever its parameters are.
 pub fn counts_of(
-    callees: &TypesByIndex,
+    callees: &FunctionAndTagTypes,
     own: Option<u32>,
     labels: &LabelCounts,
     operator: &Operator<'_>,

@@ -5,7 +5,7 @@ ghost use Rattle.wasmprinter_flat.specs.Settings.{setting_with_names};
 ghost use Rattle.wasmprinter_fold.specs.Gathering.{ImportsFunctionOrTag};
 ghost use Rattle.wasmprinter_fold.specs.Views.{folding_view};
 
-use crate::arities::types_by_index::TypesByIndex;
+use crate::arities::function_and_tag_types::FunctionAndTagTypes;
 use crate::growing_tree::GrowingTree;
 use crate::node_text::write_nodes::write_nodes;
 use std::alloc::{AllocError, Global};
@@ -22,7 +22,7 @@ use wasmprinter_text::type_use::Signatures;
 #[derive(Drop)]
 pub struct Folder<'m, 'a> {
     alloc: Global,
-    callees: TypesByIndex<'m, 'a>,
+    callees: FunctionAndTagTypes<'m, 'a>,
     tree: GrowingTree,
 }
 
@@ -45,7 +45,7 @@ impl<'m, 'a> Folder<'m, 'a> {
         ensures ok { IfOk result (λ f. f ≡ record { color = color; operators_of = «module».now }) }
         ensures memory { OnErr result (ImportsFunctionOrTag «module».now) }
     {
-        let callees = TypesByIndex::new(alloc, module)?;
+        let callees = FunctionAndTagTypes::new(alloc, module)?;
         let tree = GrowingTree::new(alloc, color);
         Ok(Folder {
             alloc,

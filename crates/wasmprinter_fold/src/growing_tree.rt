@@ -14,8 +14,8 @@ ghost use Rattle.wasmprinter_fold.specs.Growing.{Shows, GrowsByStep, operator_st
 
 use crate::arities::counts::Counts;
 use crate::arities::counts_of;
+use crate::arities::function_and_tag_types::FunctionAndTagTypes;
 use crate::arities::label_arities::{LabelCounts, label_of_block};
-use crate::arities::types_by_index::TypesByIndex;
 use crate::node_text::text_buffer::{HintedOperator, Texts};
 use crate::nodes::Builder;
 use std::alloc::{AllocError, Global};
@@ -23,7 +23,7 @@ use wasmprinter_custom::FunctionHints;
 use wasmprinter_flat::open_labels::OpenLabels;
 use wasmprinter_flat::operators::Setting;
 use wasmprinter_ops::expression::Expression;
-use wasmprinter_ops::opcodes_and_shapes::{Listed, Role};
+use wasmprinter_ops::opcode_shapes_arities_and_roles::{Listed, Role};
 use wasmprinter_text::type_use::Signatures;
 
 /// The nodes of the operators so far, their texts, and the number of values that the labels of the open blocks
@@ -190,7 +190,7 @@ impl GrowingTree {
     /// Adds the next operator. `labels` are those that are open before it.
     fn fold_next<S: Signatures>(
         &mut self,
-        callees: &TypesByIndex<'_, '_>,
+        callees: &FunctionAndTagTypes<'_, '_>,
         setting: &Setting<'_, S>,
         labels: &OpenLabels<'_, '_>,
         own: Option<u32>,
@@ -224,7 +224,7 @@ impl GrowingTree {
     /// Returns an error if an allocation fails. The nodes are then unusable until the next list is folded.
     pub fn fold<S: Signatures>(
         &mut self,
-        callees: &TypesByIndex<'_, '_>,
+        callees: &FunctionAndTagTypes<'_, '_>,
         setting: &Setting<'_, S>,
         labels: &mut OpenLabels<'_, '_>,
         own: Option<u32>,

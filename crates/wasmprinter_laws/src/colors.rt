@@ -1,10 +1,9 @@
-//! Laws of colors in printed text: colors add only ANSI escape sequences. In each law of modules except
-//! [`folded_text_is_by_own_arities`] the indent consists of spaces and tabs.
+//! Laws of colors in printed text: colors add only ANSI escape sequences. In each law of modules the indent consists of
+//! spaces and tabs.
 
 ghost use Rattle.wasmprinter_spec.specs.Laws.{ColorAddsSequences, TextsContainColors, ColoredTextKeeps};
 ghost use Rattle.wasmprinter_laws.specs.ColoredLaws.{ColoredGroupsAreNodes, ColoredModulesHaveTrees};
 ghost use Rattle.wasmprinter_laws.specs.PlainLaws.{ColorsKeepText};
-ghost use Rattle.wasmprinter_laws.specs.AnyFolding.{FoldsByOwnArities, FoldedAnyhowReadsAsFlat};
 
 /// Deleting the ANSI escape sequences from the colored text of any calls on a printer gives their text without
 /// colors, if that text contains only tabs, line feeds and the characters from the space to the tilde.
@@ -48,23 +47,4 @@ pub fn colored_groups_are_nodes()
 /// [`folded_modules_have_trees`](crate::folded_modules_have_trees).
 pub fn colored_modules_have_trees()
     ensures { ColoredModulesHaveTrees }
-{}
-
-/// If the options ask for folded operators, the layout of any module is the one that folds them by the arities of the
-/// table of operators and by the types of the module's items that they name. An arity is a number of operands and
-/// results. This is one of the ways of folding that [`folded_text_reads_as_flat_by_any_arities`] covers.
-pub fn folded_text_is_by_own_arities()
-    ensures { FoldsByOwnArities }
-{}
-
-/// After the escape sequences are deleted, the folded text and the flat text of a module both read as that module.
-/// This holds for any arities that opcodes are folded by, and for any types of the functions, tags, labels and
-/// structures that they name. The folded text has colors or not.
-///
-/// The module is as in the reading law ([`printed_text_reads_back`](crate::printed_text_reads_back)): some bytes encode
-/// it, every index that it uses is declared, and no table has an empty initialiser. The text is not a skeleton, its
-/// indent consists of spaces and tabs, and the printer claims no custom section. No `try`, `catch`, `catch_all` or
-/// `delegate` is printed, and no `dylink.0` section is refused.
-pub fn folded_text_reads_as_flat_by_any_arities()
-    ensures { FoldedAnyhowReadsAsFlat }
 {}

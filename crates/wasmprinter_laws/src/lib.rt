@@ -6,7 +6,7 @@
 //! - `printable_text`: which characters printed text has, and which lists of calls have one text.
 //! - `names_and_identifiers`: name sections, identifiers and labels.
 //! - `line_places`: the lines of a text and their places in the module.
-//! - `folded_trees`: folding and unfolding lists of operators.
+//! - `folded_trees`: folding and unfolding lists of operators; the groups of folded text are the nodes of its trees.
 //! - `colors`: colors add only ANSI escape sequences.
 #![tactic(auto)]
 
@@ -20,10 +20,10 @@ mod printable_text;
 
 pub use colors::{
     color_adds_sequences, colored_groups_are_nodes, colored_modules_have_trees, colored_text_keeps,
-    colors_keep_text, folded_text_is_by_own_arities, folded_text_reads_as_flat_by_any_arities,
-    sequences_stay_within_calls,
+    colors_keep_text, sequences_stay_within_calls,
 };
 pub use folded_trees::{
+    folded_groups_are_nodes, folded_modules_have_trees, folded_text_is_by_own_arities,
     folding_loses_nothing, nested_operators_are_folded, nested_operators_have_trees,
     operands_are_the_shortest_run, trees_say_their_lists,
 };
@@ -35,8 +35,8 @@ pub use literals_read_back::{
     float_text_reads, floats_are_exact, quoted_bytes_read, quoted_text_reads,
 };
 pub use module_text_reads_back::{
-    bytes_spell_at_most_one_module, folded_groups_are_nodes, folded_modules_have_trees,
-    folded_operators_read_back, folded_text_reads_as_flat, hints_stay, named_operators_read_back,
+    bytes_spell_at_most_one_module, folded_operators_read_back, folded_text_reads_as_flat,
+    folded_text_reads_as_flat_by_any_arities, hints_stay, named_operators_read_back,
     places_and_indent_keep_tokens, printed_operators_read_back, printed_text_reads_back,
     reader_takes_nested_operators,
 };

@@ -1,10 +1,10 @@
-//! Laws of reading: what bytes encode, and that its printed text reads back, flat and folded.
+//! Laws of reading: bytes encode at most one module, and the text of a module and of operators reads back, flat and
+//! folded.
 
 ghost use Rattle.wasmprinter_spec.specs.Laws.{SpellsAtMostOne, TakesNested, ReadsBack, TokensStay, HintsStay};
 ghost use Rattle.wasmprinter_laws.specs.OperatorLaws.{OperatorsReadBack, NamedOperatorsReadBack};
 ghost use Rattle.wasmprinter_laws.specs.FoldedLaws.{FoldedOperatorsReadBack, FoldedModulesReadAsFlat};
-ghost use Rattle.wasmprinter_laws.specs.NodeLaws.{FoldedGroupsAreNodes};
-ghost use Rattle.wasmprinter_laws.specs.TreeLaws.{FoldedModulesHaveTrees};
+ghost use Rattle.wasmprinter_laws.specs.AnyFolding.{FoldedAnyhowReadsAsFlat};
 
 /// The same bytes do not encode two different modules (section 5.5 of the standard, "Modules"). The byte offsets of
 /// the module's parts are included: they are equal too.
@@ -76,29 +76,20 @@ pub fn folded_operators_read_back()
     ensures { FoldedOperatorsReadBack }
 {}
 
-/// The groups of folded text are the nodes of its tree: one group for each node, in the same order and at the same
-/// depth. The items of a group before its inner nodes are those that the text of its operator reads as, or the word
-/// `then` or `else`. This holds for any numbers of operands and results by which operators are folded.
-///
-/// The premises: the operators are well nested and in the table, with the immediates that it lists. Their numbers and
-/// the type indices in signatures are in range. None is `try`, `catch`, `catch_all` or `delegate`. Each identifier and
-/// each name is UTF-8, and no identifier is empty. The text has no colors, and its indent consists of spaces and tabs.
-/// Indices need not be declared, nor identifiers distinct.
-pub fn folded_groups_are_nodes()
-    ensures { FoldedGroupsAreNodes }
-{}
-
 /// The text of a module whose operators are folded reads as its flat text does. The premises are those of the reading
 /// law with folding ([`printed_text_reads_back`]): also no branch hint is on an operator whose folded text can't hold it.
 pub fn folded_text_reads_as_flat()
     ensures { FoldedModulesReadAsFlat }
 {}
 
-/// The groups of the text of a module whose operators are folded are the nodes of its trees, field by field: a
-/// function has those of its body, a global and a table those of their initialisers, and a segment those of its
-/// offset and of its items. The items of each group are those of [`folded_groups_are_nodes`]. The module is foldable,
-/// as in [`printed_text_reads_back`]. The text is not a skeleton and has no colors. Its indent consists of spaces and
-/// tabs. No `dylink.0` section is refused. The printer may claim sections, and indices need not be declared.
-pub fn folded_modules_have_trees()
-    ensures { FoldedModulesHaveTrees }
+/// After the escape sequences are deleted, the folded text and the flat text of a module both read as that module.
+/// This holds for any arities that opcodes are folded by, and for any types of the functions, tags, labels and
+/// structures that they name. The folded text has colors or not.
+///
+/// The module is as in the reading law ([`printed_text_reads_back`]): some bytes encode
+/// it, every index that it uses is declared, and no table has an empty initialiser. The text is not a skeleton, its
+/// indent consists of spaces and tabs, and the printer claims no custom section. No `try`, `catch`, `catch_all` or
+/// `delegate` is printed, and no `dylink.0` section is refused.
+pub fn folded_text_reads_as_flat_by_any_arities()
+    ensures { FoldedAnyhowReadsAsFlat }
 {}

@@ -1,8 +1,8 @@
 -- Operand and result counts of operators: the program's arities, and the arities of the table of operators.
 use Rattle.std.specs.Prelude.{Option, Some, None}
 use Rattle.wasmprinter_spec.specs.Row.{Arity, Fixed, OfCall, OfReturnCall, OfIndirectCall, OfReturnIndirectCall, OfThrow, OfReturn, OfBranch, OfBranchIf, OfBranchTable, OfBranchOnNull, OfBranchOnNonNull, OfBranchOnCast, OfBlock, OfStruct, OfCount}
-use Rattle.wasmprinter_ops.specs.declared.opcodes_and_shapes.Arity.{Arity as ProgramArity}
-use Rattle.wasmprinter_ops.specs.declared.opcodes_and_shapes.Arity.TheVariants as arities
+use Rattle.wasmprinter_ops.specs.declared.opcode_shapes_arities_and_roles.Arity.{Arity as ProgramArity}
+use Rattle.wasmprinter_ops.specs.declared.opcode_shapes_arities_and_roles.Arity.TheVariants as arities
 
 -- The arity that an arity of the program represents.
 abbrev pub arity_view : ProgramArity → Arity

@@ -12,7 +12,7 @@ use Rattle.wasmprinter_bytes.specs.Reasons.{HasReason}
 use Rattle.wasmprinter_bytes.specs.declared.malformed.Malformed.{Malformed}
 use Rattle.wasmprinter_ops.specs.Nesting.{OpensBlock, open_after}
 use Rattle.wasmprinter_ops.specs.Shapes.{role_view}
-use Rattle.wasmprinter_ops.specs.declared.opcodes_and_shapes.Role.{Role}
+use Rattle.wasmprinter_ops.specs.declared.opcode_shapes_arities_and_roles.Role.{Role}
 
 -- The program's pair of a place and an operator, as the operator with its place.
 abbrev pub placed_view : ℕ × Operator → Placed Operator

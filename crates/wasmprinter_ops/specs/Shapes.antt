@@ -4,13 +4,13 @@ use Rattle.std.specs.Borrow.{Bor}
 use Rattle.wasmprinter_spec.specs.Row.{Space, Shape, NoneShape, FenceShape, BlockShape, TryTableShape, IndexShape, DefaultIndexShape, PairShape, FieldShape, CountShape, CallShape, SegmentShape, CopyShape, BranchTableShape, SelectShape, HeapShape, RefShape, CastShape, MemoryShape, MemoryLaneShape, LaneShape, I32Shape, I64Shape, F32Shape, F64Shape, VectorShape, LanesShape, Arity, Role}
 use Rattle.wasmprinter_spec.specs.Row as row
 use Rattle.wasmprinter_ops.specs.Arities.{arity_view}
-use Rattle.wasmprinter_ops.specs.declared.opcodes_and_shapes.Space.{Space as ProgramSpace}
-use Rattle.wasmprinter_ops.specs.declared.opcodes_and_shapes.Space.TheVariants as spaces
-use Rattle.wasmprinter_ops.specs.declared.opcodes_and_shapes.Shape.{Shape as ProgramShape}
-use Rattle.wasmprinter_ops.specs.declared.opcodes_and_shapes.Shape.TheVariants as shapes
-use Rattle.wasmprinter_ops.specs.declared.opcodes_and_shapes.Arity.{Arity as ProgramArity}
-use Rattle.wasmprinter_ops.specs.declared.opcodes_and_shapes.Role.{Role as ProgramRole}
-use Rattle.wasmprinter_ops.specs.declared.opcodes_and_shapes.Role.TheVariants as program_roles
+use Rattle.wasmprinter_ops.specs.declared.opcode_shapes_arities_and_roles.Space.{Space as ProgramSpace}
+use Rattle.wasmprinter_ops.specs.declared.opcode_shapes_arities_and_roles.Space.TheVariants as spaces
+use Rattle.wasmprinter_ops.specs.declared.opcode_shapes_arities_and_roles.Shape.{Shape as ProgramShape}
+use Rattle.wasmprinter_ops.specs.declared.opcode_shapes_arities_and_roles.Shape.TheVariants as shapes
+use Rattle.wasmprinter_ops.specs.declared.opcode_shapes_arities_and_roles.Arity.{Arity as ProgramArity}
+use Rattle.wasmprinter_ops.specs.declared.opcode_shapes_arities_and_roles.Role.{Role as ProgramRole}
+use Rattle.wasmprinter_ops.specs.declared.opcode_shapes_arities_and_roles.Role.TheVariants as program_roles
 
 -- The index space that an index space of the program represents.
 abbrev pub space_view : ProgramSpace → Space

@@ -5,7 +5,7 @@ ghost use Rattle.wasmprinter_spec.specs.Nesting.{Enter, Become, at_start, move_o
 ghost use Rattle.wasmprinter_ops.specs.Nesting.{frame_view, Steps, Advances};
 ghost use Rattle.wasmprinter_ops.specs.Shapes.{role_view};
 
-use crate::opcodes_and_shapes::Role;
+use crate::opcode_shapes_arities_and_roles::Role;
 use std::alloc::{AllocError, Global};
 use std::marker::Model;
 

@@ -12,7 +12,7 @@ use crate::block_immediates::{BlockType, Catches, Targets, read_block_type, read
 use crate::cast_flags::MOST_FLAGS;
 use crate::fixed_bytes::{read_bytes, read_f32_bits, read_f64_bits};
 use crate::mem_arg::MemArg;
-use crate::opcodes_and_shapes::{Listed, Opcode, Role, Shape, is_prefix};
+use crate::opcode_shapes_arities_and_roles::{Listed, Opcode, Role, Shape, is_prefix};
 use crate::{HeapType, ValTypes, read_heap_type, read_types};
 use std::alloc::AllocError;
 use std::marker::Model;
@@ -123,7 +123,7 @@ impl Clone for Immediates<'_> {
 // would need a model of `Immediates`.
 impl PartialEq for Operator<'_> {
     ghost use Rattle.std.specs.Cmp.{and_per, on_per};
-    ghost use Rattle.wasmprinter_ops.specs.contracts.opcodes_and_shapes.OpcodePartialEq.TheImpl.Laws.{laws-law as opcodes_compare};
+    ghost use Rattle.wasmprinter_ops.specs.contracts.opcode_shapes_arities_and_roles.OpcodePartialEq.TheImpl.Laws.{laws-law as opcodes_compare};
     ghost use Rattle.wasmprinter_ops.specs.contracts.operator.ImmediatesPartialEq.TheImpl.Laws.{laws-law as immediates_compare};
     ghost use Rattle.std.specs.Ordering.{eq_of_both, on};
     ghost use Rattle.wasmprinter_ops.specs.OfViews.{immediates_of_view};

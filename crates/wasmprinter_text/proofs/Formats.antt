@@ -1,8 +1,8 @@
 -- In both formats the padded digits and the fraction fit in 52 bits.
 use Rattle.std.proofs.Common.{◌^◌, ◌≤◌, lit≤}
 use Rattle.wasmprinter_spec.specs.FloatText.{digit_count}
-use Rattle.wasmprinter_text.specs.declared.float_format.Format.{Format}
-use Rattle.wasmprinter_text.specs.declared.float_format.Format.TheVariants.{Single, Double}
+use Rattle.wasmprinter_text.specs.declared.float_bit_format.Format.{Format}
+use Rattle.wasmprinter_text.specs.declared.float_bit_format.Format.TheVariants.{Single, Double}
 use Rattle.wasmprinter_text.specs.Formats.{width_of}
 
 pub digits_fit : (f : Format) → 16 ^ digit_count (width_of f) ≤ 2 ^ 52

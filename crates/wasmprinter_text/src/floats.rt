@@ -9,7 +9,7 @@ ghost use Rattle.wasmprinter_spec.specs.Piece.{Float};
 ghost use Rattle.wasmprinter_text.specs.Formats.{width_of};
 ghost use Rattle.wasmprinter_text.specs.Numbers.{letter_p};
 
-use crate::float_format::Format;
+use crate::float_bit_format::Format;
 use crate::integers::{power, write_decimal, write_digit, write_hexadecimal};
 use wasmprinter_print::{Output, Style};
 

@@ -7,7 +7,7 @@ pub mod annotations;
 pub mod bytes_or_ellipsis;
 pub mod comments;
 pub mod declarations_and_indices;
-mod float_format;
+mod float_bit_format;
 pub mod floats;
 pub mod hints;
 mod identifiers;

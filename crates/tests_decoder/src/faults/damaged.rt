@@ -6,7 +6,7 @@ use std::alloc::{AllocError, Global};
 use std::test::Fail;
 use wasmprinter_bytes::Malformed;
 use wasmprinter_bytes::cursor::Cursor;
-use wasmprinter_ops::opcodes_and_shapes::{Listed, Opcode, Shape};
+use wasmprinter_ops::opcode_shapes_arities_and_roles::{Listed, Opcode, Shape};
 use wasmprinter_ops::operator::read_operator;
 
 /// The bytes that replace each byte.

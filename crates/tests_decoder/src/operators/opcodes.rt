@@ -1,7 +1,7 @@
 //! Tests of opcodes: their words, shapes, arities and roles. All expected values are typed by hand.
 
 use std::test::Fail;
-use wasmprinter_ops::opcodes_and_shapes::{Arity, Listed, Opcode, Role, Shape, Space};
+use wasmprinter_ops::opcode_shapes_arities_and_roles::{Arity, Listed, Opcode, Role, Shape, Space};
 
 /// An expected property of an opcode.
 #[derive(Clone, Copy)]

@@ -6,7 +6,7 @@ use std::alloc::Global;
 use std::test::Fail;
 use wasmprinter_custom::{Identifier, Identifiers, Name, Space};
 use wasmprinter_flat::open_labels::{LabelRef, OpenLabels};
-use wasmprinter_ops::opcodes_and_shapes::Role;
+use wasmprinter_ops::opcode_shapes_arities_and_roles::Role;
 
 /// The name `a`, whose identifier is the name itself.
 const A: Identifier<'static> = Identifier::Given(Name {

@@ -6,12 +6,12 @@ ghost use Rattle.wasmprinter_spec.specs.Folding.Arities.{block_operands, block_r
 ghost use Rattle.wasmprinter_ops.specs.Blocks.{block_type_view};
 
 use crate::arities::counts::{parameter_count_of, result_count_of};
-use crate::arities::types_by_index::TypesByIndex;
+use crate::arities::function_and_tag_types::FunctionAndTagTypes;
 use wasmprinter_ops::block_immediates::BlockType;
 
 /// Returns the number of parameters of the function type with the index, or `None` if there is no such function
 /// type.
-fn parameter_count(callees: &TypesByIndex, type_index: u32) -> Option<u32>
+fn parameter_count(callees: &FunctionAndTagTypes, type_index: u32) -> Option<u32>
     ensures { result ≡ option_map (λ t. length t.params)
         (signature_at (types_of callees.now) type_index) }
 {
@@ -22,7 +22,7 @@ fn parameter_count(callees: &TypesByIndex, type_index: u32) -> Option<u32>
 }
 
 /// Returns the number of results of the function type with the index, or `None` if there is no such function type.
-fn result_count(callees: &TypesByIndex, type_index: u32) -> Option<u32>
+fn result_count(callees: &FunctionAndTagTypes, type_index: u32) -> Option<u32>
     ensures { result ≡ option_map (λ t. length t.results)
         (signature_at (types_of callees.now) type_index) }
 {
@@ -33,7 +33,7 @@ fn result_count(callees: &TypesByIndex, type_index: u32) -> Option<u32>
 }
 
 /// Returns the number of parameters of a block with the type.
-pub(crate) fn block_operands(callees: &TypesByIndex, block_type: BlockType) -> Option<u32>
+pub(crate) fn block_operands(callees: &FunctionAndTagTypes, block_type: BlockType) -> Option<u32>
     // The enclosing function does not matter.
     ensures { (own : Option ℕ) →
         result ≡ block_operands (signatures_within callees.now own) (block_type_view block_type) }
@@ -45,7 +45,7 @@ pub(crate) fn block_operands(callees: &TypesByIndex, block_type: BlockType) -> O
 }
 
 /// Returns the number of results of a block with the type.
-pub(crate) fn block_results(callees: &TypesByIndex, block_type: BlockType) -> Option<u32>
+pub(crate) fn block_results(callees: &FunctionAndTagTypes, block_type: BlockType) -> Option<u32>
     // The enclosing function does not matter.
     ensures { (own : Option ℕ) →
         result ≡ block_results (signatures_within callees.now own) (block_type_view block_type) }

@@ -9,11 +9,11 @@ ghost use Rattle.wasmprinter_ops.specs.Shapes.{role_view};
 ghost use Rattle.wasmprinter_fold.specs.Named.{count_if_any};
 
 use crate::arities::block_types::{block_operands, block_results};
-use crate::arities::types_by_index::TypesByIndex;
+use crate::arities::function_and_tag_types::FunctionAndTagTypes;
 use std::alloc::{AllocError, Global};
 use std::marker::Model;
 use wasmprinter_ops::block_immediates::BlockType;
-use wasmprinter_ops::opcodes_and_shapes::{Opcode, Role};
+use wasmprinter_ops::opcode_shapes_arities_and_roles::{Opcode, Role};
 use wasmprinter_ops::operator::{Immediates, Operator};
 
 /// The opcode of `loop`.
@@ -28,7 +28,7 @@ fn is_loop(opcode: Opcode) -> bool
 
 /// Returns the number of values that the label of a block with the type expects. A branch to the label of a loop
 /// goes to the start of the loop, so it passes the loop's parameters.
-fn label_of_type(callees: &TypesByIndex, is_loop: bool, block_type: BlockType) -> Option<u32>
+fn label_of_type(callees: &FunctionAndTagTypes, is_loop: bool, block_type: BlockType) -> Option<u32>
     // The enclosing function does not matter.
     ensures { (own : Option ℕ) → result
         ≡ label_of_type (signatures_within callees.now own) is_loop (block_type_view block_type) }
@@ -43,7 +43,7 @@ fn label_of_type(callees: &TypesByIndex, is_loop: bool, block_type: BlockType) -
 /// Returns the number of values that the label of an operator's block expects: the parameters of a loop, the
 /// results of any other block. Returns `None` if the block's type is unknown, and for an operator that opens no
 /// block.
-pub fn label_of_block(callees: &TypesByIndex, operator: &Operator<'_>) -> Option<u32>
+pub fn label_of_block(callees: &FunctionAndTagTypes, operator: &Operator<'_>) -> Option<u32>
     // The enclosing function does not matter.
     ensures { (own : Option ℕ) →
         result ≡ label_of_block (signatures_within callees.now own) operator.now }

@@ -8,7 +8,7 @@ ghost use Rattle.wasmprinter_fold.specs.Named.{function_named, tag_named, type_n
 ghost use Rattle.wasmprinter_fold.specs.Named.{field_count_named, block_gives_in};
 
 use crate::arities::block_types::block_results;
-use crate::arities::types_by_index::TypesByIndex;
+use crate::arities::function_and_tag_types::FunctionAndTagTypes;
 use wasmprinter_ops::composite_types::FuncType;
 use wasmprinter_ops::operator::Immediates;
 
@@ -65,7 +65,7 @@ pub(crate) fn count_in(immediates: &Immediates<'_>) -> Option<u32>
 
 /// Returns the type of the function that the index refers to.
 pub(crate) fn function_named<'a>(
-    callees: &TypesByIndex<'_, 'a>,
+    callees: &FunctionAndTagTypes<'_, 'a>,
     immediates: &Immediates<'_>,
 ) -> Option<FuncType<'a>>
     ensures { result ≡ function_named callees.now (immediates_view immediates.now) }
@@ -75,7 +75,7 @@ pub(crate) fn function_named<'a>(
 
 /// Returns the type of the tag that the index refers to.
 pub(crate) fn tag_named<'a>(
-    callees: &TypesByIndex<'_, 'a>,
+    callees: &FunctionAndTagTypes<'_, 'a>,
     immediates: &Immediates<'_>,
 ) -> Option<FuncType<'a>>
     ensures { result ≡ tag_named callees.now (immediates_view immediates.now) }
@@ -85,7 +85,7 @@ pub(crate) fn tag_named<'a>(
 
 /// Returns the function type that the index refers to, alone or with a table.
 pub(crate) fn type_named<'a>(
-    callees: &TypesByIndex<'_, 'a>,
+    callees: &FunctionAndTagTypes<'_, 'a>,
     immediates: &Immediates<'_>,
 ) -> Option<FuncType<'a>>
     ensures { result ≡ type_named callees.now (immediates_view immediates.now) }
@@ -94,14 +94,20 @@ pub(crate) fn type_named<'a>(
 }
 
 /// Returns the number of fields of the structure type that the index refers to.
-pub(crate) fn field_count_named(callees: &TypesByIndex, immediates: &Immediates<'_>) -> Option<u32>
+pub(crate) fn field_count_named(
+    callees: &FunctionAndTagTypes,
+    immediates: &Immediates<'_>,
+) -> Option<u32>
     ensures { result ≡ field_count_named callees.now (immediates_view immediates.now) }
 {
     callees.field_count(index_in(immediates)?)
 }
 
 /// Returns the number of results of a block with the block type in the immediates.
-pub(crate) fn block_gives_in(callees: &TypesByIndex, immediates: &Immediates<'_>) -> Option<u32>
+pub(crate) fn block_gives_in(
+    callees: &FunctionAndTagTypes,
+    immediates: &Immediates<'_>,
+) -> Option<u32>
     // The enclosing function does not matter.
     ensures { (own : Option ℕ) → result
         ≡ block_gives_in (signatures_within callees.now own) (immediates_view immediates.now) }

@@ -9,19 +9,19 @@ ghost use Rattle.wasmprinter_ops.specs.Immediates.{immediates_view};
 ghost use Rattle.wasmprinter_fold.specs.Counted.{known_view};
 
 use crate::arities::counts::{Counts, counts_of_call, one_more, operands_and_results};
+use crate::arities::function_and_tag_types::FunctionAndTagTypes;
 use crate::arities::label_arities::LabelCounts;
 use crate::arities::referenced_items::{
     block_gives_in, cast_label_in, count_in, field_count_named, function_named, index_in,
     last_label_in, tag_named, type_named,
 };
-use crate::arities::types_by_index::TypesByIndex;
-use wasmprinter_ops::opcodes_and_shapes::Arity;
+use wasmprinter_ops::opcode_shapes_arities_and_roles::Arity;
 use wasmprinter_ops::operator::Immediates;
 
 /// Returns the operands and results of an operator with the arity, or `None` if the item that it refers to is
 /// unknown.
 pub(crate) fn counts_by_arity(
-    callees: &TypesByIndex,
+    callees: &FunctionAndTagTypes,
     own: Option<u32>,
     labels: &LabelCounts,
     arity: Arity,

@@ -13,7 +13,7 @@ use wasmprinter_bytes::Error;
 use wasmprinter_custom::{FunctionHints, Hint, is_hint_section};
 use wasmprinter_decoder::find_branch_hints::hints_of;
 use wasmprinter_decoder::{Body, CustomEntry, ExternKind, Fields, Module};
-use wasmprinter_ops::opcodes_and_shapes::{Listed, Role};
+use wasmprinter_ops::opcode_shapes_arities_and_roles::{Listed, Role};
 
 /// Reports whether there is a hint section among the custom sections.
 fn has_hints(customs: &[CustomEntry<'_>]) -> bool

@@ -7,7 +7,7 @@ ghost use Rattle.wasmprinter_fold.specs.Refused.{error_of_first};
 
 use wasmprinter_bytes::Error;
 use wasmprinter_ops::expression::Expression;
-use wasmprinter_ops::opcodes_and_shapes::Listed;
+use wasmprinter_ops::opcode_shapes_arities_and_roles::Listed;
 
 /// Returns `FoldLegacy`, with its place, for the first legacy operator.
 #[tactic(auto, using(crate::proofs::Steps::legacy_none))]

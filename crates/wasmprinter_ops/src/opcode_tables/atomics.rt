@@ -1,6 +1,6 @@
 //! Opcodes with the prefix FE: atomic memory accesses.
+use crate::opcode_shapes_arities_and_roles::{Arity, Shape};
 use crate::opcode_tables::Entry;
-use crate::opcodes_and_shapes::{Arity, Shape};
 
 /// The opcodes with the prefix FE, by their numbers.
 #[rattlefmt::skip]

@@ -1,6 +1,6 @@
 //! Opcodes with the prefix FB: structures, arrays, casts, references.
+use crate::opcode_shapes_arities_and_roles::{Arity, Shape, Space};
 use crate::opcode_tables::Entry;
-use crate::opcodes_and_shapes::{Arity, Shape, Space};
 
 /// The opcodes with the prefix FB, by their numbers.
 #[rattlefmt::skip]

@@ -1,6 +1,6 @@
 //! Opcodes of one byte.
+use crate::opcode_shapes_arities_and_roles::{Arity, Role, Shape, Space};
 use crate::opcode_tables::Entry;
-use crate::opcodes_and_shapes::{Arity, Role, Shape, Space};
 
 /// The opcodes without a prefix, by their numbers.
 #[rattlefmt::skip]

@@ -1,5 +1,0 @@
-use Rattle.wasmprinter_laws.proofs.Folded.Groups.{folded_groups_are_nodes}
-use Rattle.wasmprinter_laws.proofs.module_text_reads_back.folded_groups_are_nodes.Goals as goal
-
-pub returns : goal.returns
-returns c = folded_groups_are_nodes
