@@ -162,12 +162,11 @@ impl<'a> Cursor<'a> {
         self.rest = rest;
     }
 
-    /// Reads a byte. On `Ok`, the result and the new place are those that the grammar gives. After an error,
-    /// the cursor may have advanced.
+    /// Reads the next byte. On `Ok`, the cursor is then after it.
     ///
     /// # Errors
     ///
-    /// `Malformed` if no byte remains, with the place where the bytes end.
+    /// `Malformed` if no byte remains, with the place where the bytes end. The cursor is then where it was.
     pub fn u8(&mut self) -> Result<u8, Malformed>
         ensures { Decodes (λ b. b) byte.parse self.old result self.new }
     {

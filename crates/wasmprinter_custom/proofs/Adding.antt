@@ -22,7 +22,7 @@ use Rattle.wasmprinter_spec.specs.Names.Section.{Entry, label_subsection}
 use Rattle.wasmprinter_spec.specs.Names.Content.{is_among, entry_name, last_name, is_in, entries_in}
 use Rattle.wasmprinter_custom.specs.Views.{given_cmp, key_cmp, content_or, stored_view, item_view, items_view, name_at}
 use Rattle.wasmprinter_custom.specs.Lookups.{Gains, stored_at}
-use Rattle.wasmprinter_custom.specs.Labels.{AreOfLabels}
+use Rattle.wasmprinter_custom.specs.Labels.{HaveLabelIdentifiers}
 use Rattle.wasmprinter_custom.specs.Holds.{names_given, Holds}
 use Rattle.wasmprinter_custom.specs.declared.names.Given.{Given}
 use Rattle.wasmprinter_custom.specs.declared.names.Key.{Key}
@@ -98,7 +98,7 @@ name_after a b p q x names =
 -- An insertion keeps the property that the identifiers of labels consist of their names and numbers.
 stays_of_labels : (a b : List (Key × StoredName)) (p : Key) (x : StoredName) → Gains a b p x
     → (p.subsection ≡ label_subsection → content_or x.marked x.given.now ≡ label_content p.index x.given.now)
-    → AreOfLabels (items_view a) → AreOfLabels (items_view b)
+    → HaveLabelIdentifiers (items_view a) → HaveLabelIdentifiers (items_view b)
 stays_of_labels a b p x names content old f n y e synthesizes d = by (is_at (key_cmp p) q) refl (sym (name_after a b p q x names) ∙ e)
   where
     q : Key
@@ -116,9 +116,9 @@ stays_of_labels a b p x names content old f n y e synthesizes d = by (is_at (key
 -- The same if the insertion may fail.
 pub keeps_of_labels : {X E : Type 0} (r : Result X E) (a b : List (Key × StoredName)) (p : Key) (x : StoredName) → OnOk r (Gains a b p x) → OnErr r (b ≡ a)
     → (p.subsection ≡ label_subsection → content_or x.marked x.given.now ≡ label_content p.index x.given.now)
-    → AreOfLabels (items_view a) → AreOfLabels (items_view b)
+    → HaveLabelIdentifiers (items_view a) → HaveLabelIdentifiers (items_view b)
 keeps_of_labels (Ok r) a b p x names same content old = stays_of_labels a b p x names content old
-keeps_of_labels (Err e) a b p x names same content old = subst (λ (es : List (Key × StoredName)). AreOfLabels (items_view es)) (sym same) old
+keeps_of_labels (Err e) a b p x names same content old = subst (λ (es : List (Key × StoredName)). HaveLabelIdentifiers (items_view es)) (sym same) old
 
 -- Two lists with the same name for each key have items with the same names.
 pub same_name_at : (a b : List (Key × StoredName)) → ((q : Key) → stored_at b q ≡ stored_at a q) → (s outer index : ℕ)
@@ -128,7 +128,7 @@ same_name_at a b same s outer index = sym (name_at-lookup b q) ∙ ap (λ (r : O
     q : Key
     q = record { subsection = s; outer = outer; index = index }
 
-pub same_of_labels : (a b : List (Key × StoredName)) → ((q : Key) → stored_at b q ≡ stored_at a q) → AreOfLabels (items_view a) → AreOfLabels (items_view b)
+pub same_of_labels : (a b : List (Key × StoredName)) → ((q : Key) → stored_at b q ≡ stored_at a q) → HaveLabelIdentifiers (items_view a) → HaveLabelIdentifiers (items_view b)
 same_of_labels a b same old f n x e = old f n x (sym (same_name_at a b same label_subsection f n) ∙ e)
 
 or_if : (b c : Bool) → (if b then true else c) ≡ (b || c)

@@ -33,8 +33,8 @@ abbrev pub Ascend : List NamedLabel → Type 0
 Ascend [] = Unit {0}
 Ascend (x ∷ xs) = AllByRecursion (IsBefore x) xs × Ascend xs
 
--- The identifier of a label with a name consists of that name and the label's number.
-abbrev pub AreOfLabels : List NamedItem → Type 0
-AreOfLabels items =
+-- The identifier of each label with a name is the one that `label_named` makes of its number and this name.
+abbrev pub HaveLabelIdentifiers : List NamedItem → Type 0
+HaveLabelIdentifiers items =
     (f n : ℕ) (x : Named) → name_at items label_subsection f n ≡ Some x → (synthesizes : Bool) (d : ℕ) →
     label_named synthesizes n d x.given ≡ Some x

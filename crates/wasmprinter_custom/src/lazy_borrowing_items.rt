@@ -15,7 +15,7 @@ pub trait ValueSource: Drop {
     /// The input at the cursor.
     ghost input: { Self → Input };
 
-    /// Returns a second cursor at the same place.
+    /// Returns a second cursor over the same bytes, at the same place.
     fn again(&self) -> Self
         ensures { input result ≡ input self.now };
 
@@ -78,7 +78,7 @@ impl<T: ReadFrom> ItemsIn<T> {
         ItemsIn { left: 0, source }
     }
 
-    /// Reads a count and that many values.
+    /// Reads a count and that many values. Returns an error if the bytes do not encode them.
     pub(crate) fn read(source: &mut <T as ReadFrom>::Source) -> Result<Self, Malformed>
         ensures { Reads (λ t. t) (vec_at T.parse) (T.Source.input source.old) result (T.Source.input source.new) }
     {

@@ -7,7 +7,7 @@ ghost use Rattle.wasmprinter_spec.specs.Names.Content.{is_among, content, name_o
 ghost use Rattle.wasmprinter_custom.specs.Spaces.{id_of, outer_of};
 ghost use Rattle.wasmprinter_custom.specs.Views.{content_or, stored_view, item_view, name_view, NamedItem, items_view, name_at};
 ghost use Rattle.wasmprinter_custom.specs.Lookups.{Ascends, AreUsed};
-ghost use Rattle.wasmprinter_custom.specs.Labels.{labels_in, Ascend, AreOfLabels};
+ghost use Rattle.wasmprinter_custom.specs.Labels.{labels_in, Ascend, HaveLabelIdentifiers};
 ghost use Rattle.wasmprinter_custom.specs.LabelViews.{label_view};
 
 use crate::index_space::Space;
@@ -121,7 +121,7 @@ pub struct NamesBuilder<'a> {
     /// All names that were given so far, including replaced ones.
     given: BTreeSet<Given<'a>>,
     names: SortedNames<'a>,
-    ghost of_labels: { AreOfLabels (items_view names) },
+    ghost identifiers_of_labels: { HaveLabelIdentifiers (items_view names) },
 }
 
 impl<'a> NamesBuilder<'a> {
@@ -210,7 +210,7 @@ impl<'a> Model for Names<'a> {
 
     ghost view = { λ n. map item_view n.entries.items };
 
-    ghost invariant = { λ n. Ascends n.entries.items × AreOfLabels (map item_view n.entries.items) × AreUsed n.entries.items n.named };
+    ghost invariant = { λ n. Ascends n.entries.items × HaveLabelIdentifiers (map item_view n.entries.items) × AreUsed n.entries.items n.named };
 }
 
 impl Names<'_> {
@@ -258,14 +258,16 @@ pub trait NameEntries {
     /// type of a field; for other items it is ignored.
     fn name(&self, space: Space, outer: u64, index: u64) -> Option<Name<'_>>;
 
-    /// Returns the labels that have names, by function and number.
+    /// Returns the labels that have names (`all`), in ascending order of function, then number, each once (`ascend`).
+    /// The identifier of each depends only on its name and number (`identifiers_of_labels`): it is the name, or
+    /// `#label`, the number and the name if the name is empty or begins with `#`.
     ///
     /// # Errors
     ///
-    /// If an allocation fails. Nothing is allocated if no label has a name.
+    /// If an allocation fails. If no label has a name, there is no error (`succeeds`).
     fn labels(&self, alloc: Global) -> Result<Vec<LabelName<'_>>, AllocError>;
 
-    /// Returns the name of the module.
+    /// Returns the name of the module, or `None` if it has none.
     fn module_name(&self) -> Option<Name<'_>>;
 }
 
@@ -283,7 +285,7 @@ impl NameEntries for Names<'_> {
     fn labels(&self, alloc: Global) -> Result<Vec<LabelName<'_>>, AllocError>
         ensures all { IfOk result (λ labels. map label_view labels.items ≡ labels_in self.now) }
         ensures ascend { Ascend (labels_in self.now) }
-        ensures of_labels { AreOfLabels self.now }
+        ensures identifiers_of_labels { HaveLabelIdentifiers self.now }
         ensures succeeds { labels_in self.now ≡ [] → IsOk result }
     {
         let mut labels = Vec::new(alloc);

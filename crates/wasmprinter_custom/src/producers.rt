@@ -116,7 +116,7 @@ impl<'a> ProducersField<'a> {
 /// The fields of a section.
 pub type Producers<'a> = ItemsIn<ProducersField<'a>>;
 
-/// Reads the fields of a section, which must take all of its bytes.
+/// Reads the fields of a section, or returns `None` if its bytes do not encode fields and nothing after them.
 pub(crate) fn read_producers<'a>(section: Cursor<'a>) -> Option<Producers<'a>>
     ensures { result ≡ producers.parse section.entry }
 {

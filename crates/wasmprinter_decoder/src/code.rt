@@ -190,10 +190,11 @@ impl<'a> Body<'a> {
 
 /// The parts of a function's body.
 pub trait BodyParts<'a> {
-    /// Returns the locals, not including parameters.
+    /// Returns the entries of the list of locals, each a number of locals and their type. Parameters are not included.
     fn locals(&self) -> Locals<'a>;
 
-    /// Returns the operators as an expression.
+    /// Returns the operators as an expression. In contracts its `items` are the operators, each with its place
+    /// (`operators`), and its `end` is the place of the `end` that closes it, as [`Body::end`] (`end`).
     fn expression(&self) -> &Expression<'a>;
 }
 
@@ -233,8 +234,8 @@ fn read_bodies<'a>(alloc: Global, cursor: &mut Cursor<'a>) -> Result<Vec<Body<'a
 ///
 /// - `Malformed` if the bytes do not encode a list of bodies and nothing after it, with a place as
 ///   [`Error::Malformed`](wasmprinter_bytes::Error::Malformed) describes it.
-/// - `TooManyLocals` if a body has more than 50,000 locals, not counting parameters, with the
-///   place of the first such body.
+/// - `TooManyLocals` if a body has more than 50,000 locals, not counting parameters. If the bytes encode a list of
+///   bodies, the place is that of the first such body.
 /// - `Memory` if an allocation fails.
 pub fn read_code<'a>(alloc: Global, cursor: &mut Cursor<'a>) -> Result<Vec<Body<'a>>, Error>
     ensures { DecodesContent CodeSection (λ v. v.items) cursor.old result }

@@ -95,7 +95,8 @@ pub trait Fields<'a> {
     // The module defines a function with this index among its defined functions.
     ghost defines: { Self → ℕ → Type 0 };
 
-    /// Returns the function with this index among the defined functions. Imported functions are not counted.
+    /// Returns the function with this index among the defined functions. Imported functions are not counted. The
+    /// module must define more than `number` functions ([`Module::function_count`]).
     fn function(&self, number: u32) -> Function<'a>
         requires { defines self.now number };
 

@@ -108,9 +108,9 @@ pub enum Shape {
     Lanes,
 }
 
-/// The operand and result counts of an operator (section 5.4): fixed numbers, or those of a type or label that it
-/// names. P and Q are the numbers of parameters and results of the type of the function or tag; v is the number of
-/// operands of a branch to the label.
+/// The operand and result counts of an operator (section 5.4): fixed numbers, or the item that they depend on, which is
+/// a type or label that the operator names, the enclosing function, or an immediate. P and Q are the numbers of
+/// parameters and results of the type of the function or tag; v is the number of operands of a branch to the label.
 #[derive(Clone, Copy, Debug, PartialEq, Eq)]
 pub enum Arity {
     /// The operator takes the first number of operands, and has the second number of results.
@@ -319,7 +319,8 @@ pub trait Listed {
     /// Returns the shape of the immediates, or `None` for an opcode that the table does not list.
     fn shape(&self) -> Option<Shape>;
 
-    /// Returns the operand and result counts, or `None` for an opcode that the table does not list.
+    /// Returns the arity: the operand and result counts, or the items that they depend on. `None` for an opcode that
+    /// the table does not list.
     fn arity(&self) -> Option<Arity>;
 
     /// Returns the role among blocks, which is `Plain` for an opcode that the table does not list.

@@ -43,14 +43,16 @@ pub trait Output {
     /// A group was opened. The Boolean says whether a line had begun in the group around it.
     ghost opened: { Self → Self → Bool → Type 0 };
 
-    /// The innermost group was left.
+    /// The innermost group was left. The Boolean says whether a line had begun in the group around it when this group
+    /// was opened.
     ghost left_group: { Self → Self → Bool → Type 0 };
 
-    /// Returns whether each line starts with its byte offset.
+    /// Returns whether lines after the first start with their byte offsets.
     fn offsets(&self) -> bool
         ensures { result ≡ chosen.offsets };
 
-    /// Returns whether bodies and items are left out.
+    /// Returns whether the text is a skeleton: without bodies, items of element segments, and bytes of data segments
+    /// and custom sections.
     fn skeleton(&self) -> bool
         ensures { result ≡ chosen.skeleton };
 
@@ -62,11 +64,11 @@ pub trait Output {
     fn has_failed(&self) -> bool
         ensures { result ≡ failed self.now };
 
-    /// Writes a piece of text.
+    /// Writes a text.
     fn write_str(&mut self, s: &str)
         ensures { called self.old self.new (Text s.now ∷ []) };
 
-    /// Writes a piece of text, by a call for each of its characters unless the printer implements this differently.
+    /// Writes a text, by a call for each of its characters unless the printer implements this differently.
     fn write_each_char(&mut self, s: &str)
         ensures { called self.old self.new (Text s.now ∷ []) };
 
@@ -93,8 +95,8 @@ pub trait Output {
     fn write_level(&mut self)
         ensures { called self.old self.new (Text chosen.indent ∷ []) };
 
-    /// Writes the indent of this many levels in one call, if it is available as one text. Returns whether it was
-    /// written.
+    /// Writes the indent of this many levels, at most 50, in one call, if it is available as one text. Returns
+    /// whether it was written.
     fn write_levels(&mut self, levels: usize) -> bool
         requires { levels ≤ most_indents }
         ensures { called self.old self.new (if result then Text (repetition_of levels chosen.indent) ∷ [] else []) };

@@ -44,9 +44,9 @@ pub data Shape : Type 0 where
   VectorShape : Shape  -- sixteen bytes, which the text writes as four numbers
   LanesShape : Shape  -- sixteen lanes
 
--- How many operands an operator takes and how many results it gives: fixed numbers, or those of a type or label
--- that it names. P and Q are the numbers of parameters and results of a function's or tag's type; v is the number
--- of operands of a branch to a label.
+-- How many operands an operator takes and how many results it gives: fixed numbers, or the item that they depend on,
+-- which is a type or label that it names, the enclosing function, or an immediate. P and Q are the numbers of
+-- parameters and results of a function's or tag's type; v is the number of operands of a branch to a label.
 pub data Arity : Type 0 where
   Fixed : ℕ → ℕ → Arity
   OfCall : Arity  -- takes P, gives Q

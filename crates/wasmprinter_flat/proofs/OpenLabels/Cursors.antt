@@ -9,7 +9,7 @@ use Rattle.wasmprinter_spec.specs.Labels.{Named}
 use Rattle.wasmprinter_spec.specs.LabelNames.{label_named}
 use Rattle.wasmprinter_spec.specs.Names.Section.{label_subsection}
 use Rattle.wasmprinter_custom.specs.Views.{NamedItem, name_view, name_at}
-use Rattle.wasmprinter_custom.specs.Labels.{NamedLabel, labels_in, label_at, IsBefore, Ascend, AreOfLabels}
+use Rattle.wasmprinter_custom.specs.Labels.{NamedLabel, labels_in, label_at, IsBefore, Ascend, HaveLabelIdentifiers}
 use Rattle.wasmprinter_custom.specs.LabelViews.{label_view}
 use Rattle.wasmprinter_flat.specs.OpenLabels.Stack.{unnamed_label}
 use Rattle.wasmprinter_flat.specs.OpenLabels.Inside.{IsAhead, IsCursor, label_of}
@@ -129,7 +129,7 @@ abbrev pub own_by : Bool → ℕ → Option Named → Option Named
 own_by synthesizes d None = unnamed_label synthesizes d
 own_by synthesizes d (Some y) = Some y
 
-module _ (named : List NamedItem) (xs : List NumberedLabel) (synthesizes : Bool) (f n k d : ℕ) (lists : map view xs ≡ labels_in named) (a : Ascend (labels_in named)) (of_labels : AreOfLabels named)
+module _ (named : List NamedItem) (xs : List NumberedLabel) (synthesizes : Bool) (f n k d : ℕ) (lists : map view xs ≡ labels_in named) (a : Ascend (labels_in named)) (identifiers_of_labels : HaveLabelIdentifiers named)
     (c : IsCursor f n k (labels_in named)) where
   next_is : name_at named label_subsection f n ≡ option_map name_of_label (label_of xs k f n)
   next_is = name_in named f n ∙ sym (at_cursor f n k (labels_in named) c a) ∙ ap (λ l. picked f n (slice_get l k)) (sym lists) ∙ picked_one f n k xs
@@ -140,7 +140,7 @@ module _ (named : List NamedItem) (xs : List NumberedLabel) (synthesizes : Bool)
       by : (b : Bool) → label_named b n d None ≡ unnamed_label b d
       by true = refl
       by false = refl
-  own_is (Some y) e = of_labels f n y e synthesizes d
+  own_is (Some y) e = identifiers_of_labels f n y e synthesizes d
 
   pub own_next : label_named synthesizes n d (name_at named label_subsection f n >>= λ y. y.given) ≡ own_by synthesizes d (option_map name_of_label (label_of xs k f n))
   own_next = own_is (name_at named label_subsection f n) refl ∙ ap (own_by synthesizes d) next_is

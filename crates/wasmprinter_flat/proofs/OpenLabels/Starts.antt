@@ -7,7 +7,7 @@ use Rattle.std.specs.List.{AllByRecursion}
 use Rattle.std.specs.List.Sorted.{IsNonDecreasingBy, IsPartitionedBy, IsPartitionPoint}
 use Rattle.wasmprinter_spec.specs.Names.Section.{label_subsection}
 use Rattle.wasmprinter_custom.specs.Views.{NamedItem, name_at}
-use Rattle.wasmprinter_custom.specs.Labels.{NamedLabel, labels_in, label_at, IsBefore, Ascend, AreOfLabels}
+use Rattle.wasmprinter_custom.specs.Labels.{NamedLabel, labels_in, label_at, IsBefore, Ascend, HaveLabelIdentifiers}
 use Rattle.wasmprinter_custom.specs.LabelViews.{label_view}
 use Rattle.wasmprinter_custom.specs.declared.names.LabelName.{LabelName}
 use Rattle.wasmprinter_flat.specs.OpenLabels.Stack.{Stack}
@@ -62,7 +62,7 @@ pub kept_begun : (named : List NamedItem) (xs : List NumberedLabel) (next f n d 
 kept_begun named xs next f n d limit k g s h c e = record {
   lists = h.lists;
   ascend = h.ascend;
-  of_labels = h.of_labels;
+  identifiers_of_labels = h.identifiers_of_labels;
   numbered = h.numbered;
   limit = e ∙ h.limit;
   cursor = c;
@@ -83,11 +83,11 @@ ahead_first [] = tt
 ahead_first (x ∷ xs) = (omega arith, λ e. omega arith)
 
 pub kept_new : (named : List NamedItem) (xs : List NumberedLabel) (ys : List LabelName) (limit : ℕ) → map (λ x. x.label) xs ≡ ys → map label_view ys ≡ labels_in named → Ascend (labels_in named)
-    → AreOfLabels named → AreNumbered xs → limit ≡ length xs → IsKept named xs 0 0 0 0 (record { blocks = []; limit = limit })
+    → HaveLabelIdentifiers named → AreNumbered xs → limit ≡ length xs → IsKept named xs 0 0 0 0 (record { blocks = []; limit = limit })
 kept_new named xs ys limit e lists a o m size = record {
   lists = map_map xs ∙ ap (map label_view) e ∙ lists;
   ascend = a;
-  of_labels = o;
+  identifiers_of_labels = o;
   numbered = m;
   limit = size;
   cursor = ahead_first (labels_in named);

@@ -31,7 +31,7 @@ module _ (named : List NamedItem) (xs zs : List NumberedLabel) (synthesizes : Bo
     kept_unnamed = record {
       lists = k.lists;
       ascend = k.ascend;
-      of_labels = k.of_labels;
+      identifiers_of_labels = k.identifiers_of_labels;
       numbered = k.numbered;
       limit = k.limit;
       few = k.few;
@@ -44,7 +44,7 @@ module _ (named : List NamedItem) (xs zs : List NumberedLabel) (synthesizes : Bo
     pub scan_unnamed : scan named synthesizes f (suc n) (labels_from synthesizes s.blocks (suc d)) ≡ after_opening (scan named synthesizes f n (labels_from synthesizes s.blocks d))
     scan_unnamed =
         ap (scan named synthesizes f (suc n)) (labels_unnamed synthesizes s.blocks d k.below ∙ ap (λ (x : Label). x ∷ labels_from synthesizes s.blocks d) (sym
-        (own_none named xs synthesizes f n next (length (labels_from synthesizes s.blocks d)) k.lists k.ascend k.of_labels k.cursor zs same e
+        (own_none named xs synthesizes f n next (length (labels_from synthesizes s.blocks d)) k.lists k.ascend k.identifiers_of_labels k.cursor zs same e
         ∙ ap (unnamed_label synthesizes) (labels_length synthesizes s.blocks d))))
 
   -- ---- An operator that opens a block whose label has a name
@@ -69,7 +69,7 @@ module _ (named : List NamedItem) (xs zs : List NumberedLabel) (synthesizes : Bo
     kept_named = record {
       lists = k.lists;
       ascend = k.ascend;
-      of_labels = k.of_labels;
+      identifiers_of_labels = k.identifiers_of_labels;
       numbered = k.numbered;
       limit = k.limit;
       few = omega (arith, k.few);
@@ -82,7 +82,7 @@ module _ (named : List NamedItem) (xs zs : List NumberedLabel) (synthesizes : Bo
     pub scan_named : scan named synthesizes f (suc n) (labels_from synthesizes (block_of d x ∷ s.blocks) (suc d)) ≡ after_opening (scan named synthesizes f n (labels_from synthesizes s.blocks d))
     scan_named =
         ap (scan named synthesizes f (suc n)) (labels_named synthesizes (block_of d x) s.blocks d refl ∙ ap (λ (y : Label). y ∷ labels_from synthesizes s.blocks d) (sym
-        (own_some named xs synthesizes f n next (length (labels_from synthesizes s.blocks d)) k.lists k.ascend k.of_labels k.cursor zs same x e)))
+        (own_some named xs synthesizes f n next (length (labels_from synthesizes s.blocks d)) k.lists k.ascend k.identifiers_of_labels k.cursor zs same x e)))
 
 -- ---- An operator that closes a block
 
@@ -91,7 +91,7 @@ pub kept_closed : (named : List NamedItem) (xs : List NumberedLabel) (next f n d
 kept_closed named xs next f n d e s k is descend = record {
   lists = k.lists;
   ascend = k.ascend;
-  of_labels = k.of_labels;
+  identifiers_of_labels = k.identifiers_of_labels;
   numbered = k.numbered;
   limit = k.limit;
   cursor = k.cursor;

@@ -3,7 +3,7 @@ use Rattle.std.specs.Prelude.{◌≡◌, ℕ, zero, suc, ◌<◌, ◌≤◌, ◌
 use Rattle.std.specs.List.{AllByRecursion}
 use Rattle.wasmprinter_spec.specs.Grammar.{◌>>=◌}
 use Rattle.wasmprinter_custom.specs.Views.{NamedItem, name_view}
-use Rattle.wasmprinter_custom.specs.Labels.{NamedLabel, labels_in, Ascend, AreOfLabels}
+use Rattle.wasmprinter_custom.specs.Labels.{NamedLabel, labels_in, Ascend, HaveLabelIdentifiers}
 use Rattle.wasmprinter_custom.specs.LabelViews.{label_view}
 use Rattle.wasmprinter_flat.specs.OpenLabels.Stack.{Block, Stack, depths, AreBelow}
 use Rattle.wasmprinter_flat.specs.OpenLabels.Numbers.{AreNumbered}
@@ -45,7 +45,7 @@ pub record IsOf (xs : List NumberedLabel) (b : Block) : Type 0 where
 pub record IsKept (named : List NamedItem) (xs : List NumberedLabel) (next function opened depth : ℕ) (stack : Stack) : Type 0 where
   pub lists : map (λ x. label_view x.label) xs ≡ labels_in named
   pub ascend : Ascend (labels_in named)
-  pub of_labels : AreOfLabels named
+  pub identifiers_of_labels : HaveLabelIdentifiers named
   pub numbered : AreNumbered xs
   pub cursor : IsCursor function opened next (labels_in named)
   pub limit : stack.limit ≡ length xs

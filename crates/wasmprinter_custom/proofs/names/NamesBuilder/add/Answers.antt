@@ -20,7 +20,7 @@ returns c = λ entries h.
 
 pub invariant_of-self-2 : goal.invariant_of-self-2
 invariant_of-self-2 c = record {
-  of_labels =
+  identifiers_of_labels =
       keeps_of_labels c.insert-2.result c.args.self.now.names c.insert-2.new.self (record { subsection = c.args.subsection; outer = c.args.outer; index = c.args.index })
-      (record { given = c.args.name; marked = c.in_ok-marked.marked }) c.insert-2.ensures.gains c.insert-2.ensures.err c.in_ok-marked.ensures.label c.args.self.now.of_labels;
+      (record { given = c.args.name; marked = c.in_ok-marked.marked }) c.insert-2.ensures.gains c.insert-2.ensures.err c.in_ok-marked.ensures.label c.args.self.now.identifiers_of_labels;
 }

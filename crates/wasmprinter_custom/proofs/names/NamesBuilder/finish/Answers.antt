@@ -8,7 +8,7 @@ pub invariant_of-result : goal.invariant_of-result
 invariant_of-result c =
     let items = c.in_ok-entries.entries.items in (
       c.in_ok-entries.ensures.ascend,
-      same_of_labels c.args.self.names items c.in_ok-entries.ensures.all c.args.self.of_labels,
+      same_of_labels c.args.self.names items c.in_ok-entries.ensures.all c.args.self.identifiers_of_labels,
       subst (λ es. AreUsed es c.used_subsections-named.result) c.deref-2.ensures.value c.used_subsections-named.ensures,
     )
 

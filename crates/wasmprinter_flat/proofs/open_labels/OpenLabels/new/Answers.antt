@@ -9,7 +9,7 @@ invariant_of-result c =
     let size : c.len.result ≡ length c.in_ok-labels-2.labels.items = omega (arith, c.len.ensures, c.in_ok-labels-2.labels.ok) in
     subst (λ (t : Stack). IsKept c.args.identifiers.names.now c.in_ok-labels-2.labels.items 0 0 0 0 t) (sym c.in_ok-named.ensures.none)
     (kept_new c.args.identifiers.names.now c.in_ok-labels-2.labels.items c.in_ok-labels.field-0.items c.len.result (c.in_ok-labels-2.ensures.labels ∙ c.deref.ensures.value)
-    c.in_ok-labels.ensures.all c.in_ok-labels.ensures.ascend c.in_ok-labels.ensures.of_labels c.in_ok-labels-2.ensures.numbers size)
+    c.in_ok-labels.ensures.all c.in_ok-labels.ensures.ascend c.in_ok-labels.ensures.identifiers_of_labels c.in_ok-labels-2.ensures.numbers size)
 
 pub returns-in_err-labels-clause-succeeds : goal.returns-in_err-labels-clause-succeeds
 returns-in_err-labels-clause-succeeds c = λ h. absurd (true≢false (sym (c.in_err-labels.ensures.succeeds (no_labels c.args.identifiers.names.now h))))

@@ -10,7 +10,7 @@ returns-in-Some c =
     let x = c.self.inside in
     let i = c.self.invariant in
     sym (own_some x.identifiers.names.now x.labels.items x.identifiers.synthesizes x.function x.opened x.next (length (labels_from x.identifiers.synthesizes x.named.blocks x.depth)) i.lists i.ascend
-    i.of_labels i.cursor c.deref.result.now c.deref.ensures.value c.in-Some.next (sym c.label_of.ensures ∙ c.in-Some.is)) ∙ ap (λ (s : LabelState). own_label s) c.self.view_is
+    i.identifiers_of_labels i.cursor c.deref.result.now c.deref.ensures.value c.in-Some.next (sym c.label_of.ensures ∙ c.in-Some.is)) ∙ ap (λ (s : LabelState). own_label s) c.self.view_is
 
 pub returns-in-None : goal.returns-in-None
 returns-in-None c =
@@ -18,4 +18,4 @@ returns-in-None c =
     let i = c.self.invariant in
     c.unnamed_identifier.ensures ∙ ap (unnamed_label x.identifiers.synthesizes) (sym (labels_length x.identifiers.synthesizes x.named.blocks x.depth))
     ∙ (sym (own_none x.identifiers.names.now x.labels.items x.identifiers.synthesizes x.function x.opened x.next (length (labels_from x.identifiers.synthesizes x.named.blocks x.depth)) i.lists i.ascend
-    i.of_labels i.cursor c.deref.result.now c.deref.ensures.value (sym c.label_of.ensures ∙ c.in-None.is)) ∙ ap (λ (s : LabelState). own_label s) c.self.view_is)
+    i.identifiers_of_labels i.cursor c.deref.result.now c.deref.ensures.value (sym c.label_of.ensures ∙ c.in-None.is)) ∙ ap (λ (s : LabelState). own_label s) c.self.view_is)
