@@ -47,7 +47,7 @@ def seconds(command, **more):
 
 
 def callers(built, work):
-    """Builds the programs that print repeatedly. Returns the command of each language, and its environment."""
+    """Builds the programs that print repeatedly. Returns for each language the command, the words after the count, and the environment."""
     library = built / "libwasmprinter.a"
     run(["cc", "-O2", f"-I{ROOT}/include", SOURCES / "repeat.c", library, "-o", work / "repeat_c"])
     run(["c++", "-O2", "-std=c++17", f"-I{ROOT}/include", f"-I{ROOT}/bindings/cpp", SOURCES / "repeat.cpp", library, "-o", work / "repeat_cpp"])
@@ -59,10 +59,11 @@ def callers(built, work):
     run(["cargo", "build", "--offline", "--quiet", "--release", "--manifest-path", crate / "Cargo.toml"], env=environment)
     python = dict(os.environ, PYTHONPATH=f"{ROOT}/bindings/python", WASMPRINTER_SO=str(built / "libwasmprinter.so.1"), PYTHONDONTWRITEBYTECODE="1")
     return {
-        "C": ([work / "repeat_c"], None),
-        "C++": ([work / "repeat_cpp"], None),
-        "Rust": ([crate / "target/release/repeat"], None),
-        "Python": ([sys.executable, SOURCES / "repeat.py"], python),
+        "C": ([work / "repeat_c"], [], None),
+        "C++": ([work / "repeat_cpp"], [], None),
+        "C++, string": ([work / "repeat_cpp"], ["string"], None),
+        "Rust": ([crate / "target/release/repeat"], [], None),
+        "Python": ([sys.executable, SOURCES / "repeat.py"], [], python),
     }
 
 
@@ -79,8 +80,8 @@ def main():
         for path in map(pathlib.Path, sys.argv[2:]):
             base = seconds([built / "printwasm", path]) - seconds([built / "printwasm", work / "empty.wasm"])
             parts = []
-            for command, environment in commands.values():
-                once, more = (seconds([*command, path, count], env=environment) for count in (1, 1 + REPEATS))
+            for command, last, environment in commands.values():
+                once, more = (seconds([*command, path, count, *last], env=environment) for count in (1, 1 + REPEATS))
                 parts.append(f"{(more - once) / REPEATS / base:.2f}")
             print(f"| {path.name} | {path.stat().st_size / 1e6:.1f} | {base * 1000:.0f} | " + " | ".join(parts) + " |")
 

@@ -260,6 +260,14 @@ static void expect_events(const Case &test_case, const Events &events) {
     expect(lines == test_case.lines.size() && line_start == test_case.text.size(), test_case.title, "number of lines among events");
 }
 
+// Compares a text, and moves it: the text it was moved from is then empty.
+static void expect_text(wasmprinter::Text text, std::string_view expected, const std::string &title) {
+    expect(text.view() == expected && text.size() == expected.size(), title, "text without a copy");
+    expect(std::string(text.c_str()) == expected.substr(0, expected.find('\0')), title, "text with a zero byte");
+    const wasmprinter::Text moved = std::move(text);
+    expect(moved.view() == expected && text.view().empty() && *text.c_str() == '\0', title, "text that was moved");
+}
+
 // Prints a case with options that have its indent and this limit.
 static void check_with(const Case &test_case, std::size_t limit) {
     Options options = test_case.options;
@@ -267,12 +275,14 @@ static void check_with(const Case &test_case, std::size_t limit) {
     options.limit = limit;
     if (test_case.status != WASMPRINTER_OK) {
         expect_error(test_case, [&] { return wasmprinter::print(test_case.wasm, options); });
+        expect_error(test_case, [&] { return wasmprinter::print_text(test_case.wasm, options); });
         expect_error(test_case, [&] { return wasmprinter::print_lines(test_case.wasm, options); });
         expect_error(test_case, [&] { return wasmprinter::print_events(test_case.wasm, options); });
         expect_error(test_case, [&] { return wasmprinter::print_ansi(test_case.wasm, options); });
         return;
     }
     expect(wasmprinter::print(test_case.wasm, options) == test_case.text, test_case.title, "text");
+    expect_text(wasmprinter::print_text(test_case.wasm, options), test_case.text, test_case.title);
     expect_lines(test_case, wasmprinter::print_lines(test_case.wasm, options));
     expect_events(test_case, wasmprinter::print_events(test_case.wasm, options));
 }
@@ -399,6 +409,9 @@ static void check_other_bytes() {
     expect(wasmprinter::print_ansi(bytes, ONE_TYPE.size()) == ONE_TYPE_IN_COLORS, "a pointer and a length", "text in colors");
     expect(wasmprinter::print_ansi(numbers) == ONE_TYPE_IN_COLORS, "a vector of numbers", "text in colors");
     expect(wasmprinter::print(std::string(ONE_TYPE)) == ONE_TYPE_TEXT, "a string", "text");
+    expect_text(wasmprinter::print_text(bytes, ONE_TYPE.size()), ONE_TYPE_TEXT, "a pointer and a length");
+    expect_text(wasmprinter::print_text(numbers), ONE_TYPE_TEXT, "a vector of numbers");
+    expect_text(wasmprinter::Text(), "", "the empty text");
 #ifdef __cpp_lib_span
     const auto span = std::as_bytes(std::span(ONE_TYPE));
     expect(wasmprinter::print(span) == ONE_TYPE_TEXT, "a span", "text");
@@ -521,6 +534,7 @@ static void check_failing_allocations() {
     Options options;
     options.indent = indent;
     check_memory("failing allocations", [&] { return wasmprinter::print(ONE_TYPE, options) == text; });
+    check_memory("failing allocations of a text without a copy", [&] { return wasmprinter::print_text(ONE_TYPE, options).view() == text; });
     check_memory("failing allocations of lines", [&] { return wasmprinter::print_lines(ONE_TYPE, options).text() == text; });
     check_memory("failing allocations of events", [&] { return wasmprinter::print_events(ONE_TYPE, options).text() == text; });
     check_memory("failing allocations of colors", [&] { return wasmprinter::print_ansi(ONE_TYPE, options).size() > text.size(); });

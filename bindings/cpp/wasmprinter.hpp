@@ -152,15 +152,41 @@ inline std::string_view sequence_of(std::uint32_t kind) noexcept {
 
 } // namespace detail
 
-// Returns the text of a module.
-[[nodiscard]] inline std::string print(std::string_view wasm, const Options &options = {}) {
+// The text of a module, in the block that it was printed to. It is not copied, so this is faster than a string. A view of it is valid until it
+// is destroyed, moved or assigned to.
+class Text {
+  public:
+    Text() = default; // the empty text
+
+    std::string_view view() const noexcept { return block_ ? std::string_view(block_.get(), size_) : std::string_view(); }
+    operator std::string_view() const noexcept { return view(); }
+
+    // Returns the text with a zero byte at its end.
+    const char *c_str() const noexcept { return block_ ? block_.get() : ""; }
+    std::size_t size() const noexcept { return view().size(); }
+
+  private:
+    friend Text print_text(std::string_view wasm, const Options &options);
+    Text(std::unique_ptr<char, detail::Free> block, std::size_t size) noexcept : block_(std::move(block)), size_(size) {}
+
+    std::unique_ptr<char, detail::Free> block_;
+    std::size_t size_ = 0;
+};
+
+// Returns the text of a module, without a copy.
+[[nodiscard]] inline Text print_text(std::string_view wasm, const Options &options = {}) {
     const WasmprinterOptions chosen = detail::options_of(options);
     WasmprinterBuffer text = {nullptr, 0};
     WasmprinterResult result = {0, 0, 0};
     const WasmprinterStatus status = wasmprinter_print_alloc(detail::bytes_of(wasm), &chosen, nullptr, nullptr, &text, &result);
-    const std::unique_ptr<char, detail::Free> block(text.ptr);
+    std::unique_ptr<char, detail::Free> block(text.ptr);
     detail::check(status, result);
-    return {text.ptr, text.len};
+    return {std::move(block), text.len};
+}
+
+// Returns the text of a module as a string, which is a copy of the text that is printed.
+[[nodiscard]] inline std::string print(std::string_view wasm, const Options &options = {}) {
+    return std::string(print_text(wasm, options).view());
 }
 
 // A line of a text.
@@ -289,6 +315,11 @@ template <typename Bytes, typename = std::enable_if_t<sizeof(*std::declval<const
 }
 
 template <typename Bytes, typename = std::enable_if_t<sizeof(*std::declval<const Bytes &>().data()) == 1>>
+[[nodiscard]] Text print_text(const Bytes &wasm, const Options &options = {}) {
+    return print_text(detail::view_of(wasm.data(), wasm.size()), options);
+}
+
+template <typename Bytes, typename = std::enable_if_t<sizeof(*std::declval<const Bytes &>().data()) == 1>>
 [[nodiscard]] Lines print_lines(const Bytes &wasm, const Options &options = {}) {
     return print_lines(detail::view_of(wasm.data(), wasm.size()), options);
 }
@@ -305,6 +336,10 @@ template <typename Bytes, typename = std::enable_if_t<sizeof(*std::declval<const
 
 [[nodiscard]] inline std::string print(const std::uint8_t *wasm, std::size_t size, const Options &options = {}) {
     return print(detail::view_of(wasm, size), options);
+}
+
+[[nodiscard]] inline Text print_text(const std::uint8_t *wasm, std::size_t size, const Options &options = {}) {
+    return print_text(detail::view_of(wasm, size), options);
 }
 
 [[nodiscard]] inline Lines print_lines(const std::uint8_t *wasm, std::size_t size, const Options &options = {}) {
