@@ -1,10 +1,10 @@
 #!/usr/bin/env python3
-"""Lists the functions of the library and the program that call themselves, directly or through others.
+"""Lists the functions of the library and of the programs that call themselves, directly or through others.
 
 The toolchain accepts such a function only with a measure, a number that decreases from call to call. The measure is a definition `decreases-NAME`
 in a folder of `proofs` whose name begins with `+`, except if the function goes down a value of a type that contains itself. So this script lists
 
-- the functions with such a definition, in crates/wasmprinter*/proofs and crates/printwasm/proofs;
+- the functions with such a definition, in the proofs of crates/wasmprinter*, crates/printwasm and crates/wasm2text;
 - the types of these crates that contain themselves, also through others: a type contains each type whose name occurs in its fields.
 
 Prints the functions. The status is 1 if docs/GUARANTEES.md has other functions in its section "Depth of the stack", or if a type contains itself.
@@ -27,7 +27,7 @@ VARIANT = re.compile(r"^ *\w+(?=[({,])", re.MULTILINE)
 
 def crates():
     """Returns the folders of the crates."""
-    return sorted([*ROOT.glob("crates/wasmprinter*"), ROOT / "crates/printwasm"])
+    return sorted([*ROOT.glob("crates/wasmprinter*"), ROOT / "crates/printwasm", ROOT / "crates/wasm2text"])
 
 
 def functions():
