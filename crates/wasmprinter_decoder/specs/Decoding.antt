@@ -28,8 +28,9 @@ HoldsNothing m = items_held m ≡ 0
 -- The reason for each error of decoding: the bytes are a component; they encode no module; the first function
 -- with too many locals has its body at the place; there are too many functions; the first table with an empty initialiser
 -- is at the place; or an allocation failed. An allocation can fail only if the bytes contain a section of items with a
--- count above zero or a custom section, and if every module that they encode has an item. `component` says when
--- the bytes are refused as a component.
+-- count above zero or a custom section, and if every module that they encode has an item. If the bytes encode no
+-- module, the reasons for the three limits say only that the bytes contain such locals or such a table at the place, or
+-- anywhere the start of a function section with the count. `component` says when the bytes are refused as a component.
 abbrev pub module_reasons : List ℕ → Type 0 → Reasons
 module_reasons bytes component = record {
   malformed = λ place. ((m : PlacedModule) → Spells bytes m → ⊥) × (place ≤ length bytes);

@@ -44,7 +44,7 @@ abbrev pub IsPage : Option ℕ → Type 0
 IsPage None = Unit {0}
 IsPage (Some exponent) = exponent < 64
 
--- The same for an imported memory.
+-- The same for the type of an imported memory. An import of another kind satisfies it.
 abbrev pub HasPage : ExternType → Type 0
 HasPage (x.Func i) = Unit {0}
 HasPage (x.Table t) = Unit {0}

@@ -65,7 +65,7 @@ impl LocalEntry {
         self.place
     }
 
-    /// Returns the number of locals.
+    /// Returns the number of locals that the entry declares.
     pub fn count(&self) -> u32
         ensures { result ≡ self.now.value.count }
     {
@@ -153,7 +153,7 @@ impl<'a> Body<'a> {
         }
     }
 
-    /// Returns a second view of the same bytes.
+    /// Returns a body equal to this one, with the same places.
     pub fn fork(&self) -> Body<'a>
         ensures { result ≡ self.now }
     {
@@ -164,7 +164,8 @@ impl<'a> Body<'a> {
         }
     }
 
-    /// Returns the operators in order, each with its place, without the last `end`. They are well nested.
+    /// Returns the operators in order, each with its place, without the last `end` (`all`). They are well nested: each
+    /// block that one of them opens is closed by another (`nested`).
     pub fn operators(&self) -> OperatorsReader<'a>
         ensures all { result ≡ self.now.value.operators }
         ensures nested { Nests Sequence (roles self.now.value.operators) }

@@ -32,10 +32,11 @@ pub enum SectionKind {
     Data,
 }
 
-/// A custom section, with the kind of the last section before it that is not empty.
+/// A custom section and its position.
 #[derive(Drop)]
 pub struct CustomEntry<'a> {
-    /// The section that it follows, or `None` at the start of the module.
+    /// The kind of the last section before it that holds an item or the start function, or `None` if there is none.
+    /// Custom sections are not items here.
     pub after: Option<SectionKind>,
     /// The custom section.
     pub section: Custom<'a>,

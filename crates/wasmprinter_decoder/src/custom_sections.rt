@@ -33,8 +33,8 @@ impl<'a> Model for Custom<'a> {
 }
 
 impl<'a> Custom<'a> {
-    /// Reads the content of a custom section. On `Ok`, the result is the value that the grammar gives for all
-    /// remaining bytes.
+    /// Reads the content of a custom section from all remaining bytes: a name, then any bytes. The contract does not
+    /// say where the cursor is after the call.
     ///
     /// # Errors
     ///

@@ -230,25 +230,27 @@ fn read_module<'a>(alloc: Global, wasm: &'a [u8]) -> Result<Module<'a>, Error>
     })
 }
 
-/// Decodes a module. On `Ok`, the bytes encode the module. It is within the limits: at most 50,000 locals in a
-/// function, not counting parameters, at most 1,000,000 functions, and no table with an empty initialiser.
+/// Decodes a module. On `Ok`, the bytes encode the module, and it is within the limits: at most 50,000 locals in a
+/// function, not counting parameters, at most 1,000,000 defined functions, and no table with an empty initialiser
+/// (`ok`).
 ///
 /// # Errors
 ///
 /// Each error has the cause that is listed here (`refused`); of `Memory`, the contract says only when an allocation is
 /// possible.
 ///
-/// - `Component` if the bytes are marked as a component. This error takes precedence over the others.
-/// - `Malformed` if the bytes do not encode a module.
+/// - `Component` exactly if the bytes are marked as a component, as [`is_component`] reports (`component`).
+/// - `Malformed` if the bytes do not encode a module. The contract says of the place only that it is at most the
+///   number of bytes.
 /// - `TooManyLocals` if a function has too many locals. The place is that of the first such body.
 /// - `TooManyFunctions` if the module defines too many functions. The count is that of the functions.
 /// - `EmptyTableInit` if a table has an empty initialiser. The place is that of the first such table.
 /// - `Memory` if an allocation failed. This can happen only if the bytes contain a section of items with a count
 ///   above zero, or a custom section.
 ///
-/// If several of the other errors apply, any of them may be returned. If the bytes encode no module, the contract says
-/// of the three errors before `Memory` only that the bytes contain, somewhere, such a list of locals, the start of a
-/// function section with such a count, or such a table.
+/// If several errors other than `Component` apply, any of them may be returned. If the bytes encode no module, the
+/// contract says of the three errors before `Memory` only that the bytes contain such a list of locals or such a table
+/// at the place, or the start of a function section with that count anywhere.
 ///
 /// If the bytes encode a module within the limits, only `Memory` is possible (`within`). A module without items and
 /// custom sections is always decoded (`empty`).

@@ -190,7 +190,8 @@ impl<'a> Element<'a> {
         self.place
     }
 
-    /// Reports whether the bytes contain the segment's table index. If not, an active segment uses table 0.
+    /// Reports whether the bytes contain the segment's table index. In the binary format, an active segment without one
+    /// uses table 0.
     pub fn names_table(&self) -> bool
         ensures { result ≡ self.now.value.names_table }
     {

@@ -63,7 +63,8 @@ impl<'a> Global<'a> {
         self.ty
     }
 
-    /// Returns the initialiser.
+    /// Returns the initialiser. In contracts its `items` are its operators, each with its place. The contract does not
+    /// give the place of its `end`.
     pub fn init(&self) -> &Expression<'a>
         ensures { result.now.items ≡ self.now.value.init }
     {

@@ -51,7 +51,7 @@ impl ExternType {
         }
     }
 
-    /// Returns the kind.
+    /// Returns the kind of the items that have this type.
     pub fn kind(&self) -> ExternKind
         ensures { kind_view result ≡ kind_of_type (extern_view self.now) }
     {
@@ -132,8 +132,8 @@ impl<'a> Import<'a> {
         self.ty.kind() == kind
     }
 
-    /// Returns the type of the import. If it is a memory, the exponent of its page size, if given, is below 64. The
-    /// type index of a function or a tag may refer to no type, or to a type that is not a function type.
+    /// Returns the type of the import (`is`). If it is a memory, the exponent of its page size, if given, is below 64
+    /// (`page`). The type index of a function or a tag may refer to no type, or to a type that is not a function type.
     pub fn ty(&self) -> ExternType
         ensures is { extern_view result ≡ self.now.value.type }
         ensures page { HasPage result }

@@ -114,7 +114,7 @@ impl Memory {
         self.place
     }
 
-    /// Returns the type. The exponent of its page size, if given, is below 64.
+    /// Returns the type (`is`). The exponent of its page size, if given, is below 64 (`page`).
     pub fn ty(&self) -> MemoryType
         ensures is { memory_type_view result ≡ self.now.value }
         ensures page { IsPage result.page }

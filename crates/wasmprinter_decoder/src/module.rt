@@ -76,8 +76,8 @@ impl<'a> Module<'a> {
         self.bodies.len() as u32
     }
 
-    /// Returns the body of the defined function `i`, or `None` if there are no more than `i` defined functions.
-    /// Imported functions are not counted.
+    /// Returns the body of the function with index `i` among the defined functions, or `None` if at most `i` functions
+    /// are defined. Imported functions are not counted.
     pub fn body(&self, i: u32) -> Option<Body<'a>>
         ensures { result ≡ body_at self.now.functions i }
     {
@@ -92,7 +92,7 @@ impl<'a> Module<'a> {
 pub trait Fields<'a> {
     ghost use Rattle.std.specs.Prelude.{ℕ};
 
-    // The module defines a function with this index among its defined functions.
+    /// The module defines a function with this index among its defined functions.
     ghost defines: { Self → ℕ → Type 0 };
 
     /// Returns the function with this index among the defined functions. Imported functions are not counted. The
@@ -100,36 +100,39 @@ pub trait Fields<'a> {
     fn function(&self, number: u32) -> Function<'a>
         requires { defines self.now number };
 
-    /// Returns the groups of types.
+    /// Returns the groups of types. All their types together are fewer than 2^64 (`few`).
     fn types(&self) -> &[TypeGroup<'a>];
 
     /// Returns the function type with this index, or `None` if there is no such type or it is not a function type.
+    /// Type indices run across recursive groups.
     ///
-    /// Type indices run across recursive groups. The time is the same for every index.
+    /// The time is the same for every index, but the contract does not say so.
     fn signature(&self, index: u32) -> Option<FuncType<'a>>;
 
     /// Returns the number of fields of the structure type with this index, or `None` if there is no such type or
-    /// it is not a structure type.
+    /// it is not a structure type. Type indices run across recursive groups.
     ///
-    /// Type indices run across recursive groups. The time is the same for every index.
+    /// The time is the same for every index, but the contract does not say so.
     fn field_count(&self, index: u32) -> Option<u32>;
 
-    /// Returns the imports.
+    /// Returns the imports, fewer than 2^32 (`few`).
     fn imports(&self) -> &[Import<'a>];
 
-    /// Returns the number of imports of this kind, in time linear in the number of imports.
+    /// Returns the number of imports of this kind (`is`), which is below 2^32 (`few`).
+    ///
+    /// Each call goes through all imports, but the contract does not say so.
     fn imported_count(&self, kind: ExternKind) -> u64;
 
-    /// Returns the tables that the module defines.
+    /// Returns the tables that the module defines, fewer than 2^32 (`few`).
     fn tables(&self) -> &[Table<'a>];
 
-    /// Returns the memories that the module defines.
+    /// Returns the memories that the module defines, fewer than 2^32 (`few`).
     fn memories(&self) -> &[Memory];
 
-    /// Returns the tags that the module defines.
+    /// Returns the tags that the module defines, fewer than 2^32 (`few`).
     fn tags(&self) -> &[Tag];
 
-    /// Returns the global variables that the module defines.
+    /// Returns the global variables that the module defines, fewer than 2^32 (`few`).
     fn globals(&self) -> &[Global<'a>];
 
     /// Returns the exports.
@@ -145,7 +148,7 @@ pub trait Fields<'a> {
     fn data_segments(&self) -> &[Data<'a>];
 
     /// Returns the custom sections in order, each with its position: the kind of the last section before it that
-    /// holds an item or the start function, if there is one.
+    /// holds an item or the start function, if there is one. Custom sections are not items here.
     fn customs(&self) -> &[CustomEntry<'a>];
 
     /// Returns the size of the module in bytes.

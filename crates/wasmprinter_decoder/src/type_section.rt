@@ -73,8 +73,8 @@ impl<'a> TypeGroup<'a> {
         self.is_explicit
     }
 
-    /// Returns the place after the first two bytes of an explicit group. The lines of all its
-    /// types start with this place. The group must be explicit.
+    /// Returns the place after the group's first two bytes: a byte offset from the start of the module. The printed
+    /// lines of the group's types have this place. The group must be explicit ([`TypeGroup::is_explicit`]).
     pub fn types_place(&self) -> u64
         requires { self.now.value.explicit ≡ true }
         ensures { result ≡ self.now.place + 2 }

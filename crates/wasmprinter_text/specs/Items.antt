@@ -11,7 +11,8 @@ use Rattle.wasmprinter_custom.specs.Views.{name_at}
 use Rattle.wasmprinter_custom.specs.declared.item_identifiers.Identifiers.{Identifiers}
 use Rattle.wasmprinter_custom.specs.declared.index_space.Space.{Space}
 
--- The identifier of an item of an index space. It computes to a lookup in `names_of_identifiers`.
+-- The identifier of an item of an index space, if it has one, by its number. `outer` is the function of a local or
+-- label or the type of a field, and is ignored for other items. It computes to a lookup in `names_of_identifiers`.
 abbrev pub item_of : Identifiers → Space → ℕ → ℕ → Option Named
 item_of x space outer number = name_in x.synthesizes (name_at x.names.now) (id_of space) (outer_of space outer) number
 

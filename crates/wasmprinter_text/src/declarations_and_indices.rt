@@ -136,9 +136,10 @@ pub fn write_index<O: Output>(out: &mut O, identifier: Option<Identifier<'_>>, n
     }
 }
 
-/// Writes the declaration of an item of an index space: its identifier and name, if it has them, and a comment with
-/// its index. `outer` is the function of a local or label or the type of a field; it is ignored for items of other
-/// spaces. The identifier is that of [`Identifiers::item`]; it is not checked that the module has such an item.
+/// Writes the declaration of an item of an index space in the style of names: its identifier with its annotation as
+/// [`write_id_and_name`] does and a space, if it has an identifier, then a comment `(;n;)` with its index. `outer` is
+/// the function of a local or label or the type of a field; it is ignored for items of other spaces. The identifier is
+/// that of [`Identifiers::item`]; it is not checked that the module has such an item.
 pub fn write_declaration_of<O: Output>(
     out: &mut O,
     identifiers: &Identifiers<'_, '_>,
@@ -152,10 +153,11 @@ pub fn write_declaration_of<O: Output>(
     write_declaration(out, identifiers.item(space, outer, number), number);
 }
 
-/// Writes an index into an index space: the identifier of the item or, if it has none, the number. `outer` is the
-/// function of a local or label or the type of a field; it is ignored for other spaces. The index may refer to nothing:
-/// it is not checked that the module has such an item. The number of a label counts the blocks of the function as they
-/// open; the labels in operators are written by other functions.
+/// Writes an index into an index space in the style of names: the identifier of the item ([`Identifiers::item`]) or, if
+/// it has none, the number in decimal. `outer` is the function of a local or label or the type of a field; it is
+/// ignored for other spaces. The index may refer to nothing: it is not checked that the module has such an item. The
+/// number of a label counts the blocks of the function as they open; the labels in operators are written by other
+/// functions.
 pub fn write_index_of<O: Output>(
     out: &mut O,
     identifiers: &Identifiers<'_, '_>,
@@ -169,8 +171,8 @@ pub fn write_index_of<O: Output>(
     write_index(out, identifiers.item(space, outer, number), number);
 }
 
-/// Writes a group of a keyword and an index into an index space of the module. The index is written as
-/// [`write_index_of`] does, with 0 for `outer`.
+/// Writes a group of a keyword, a space and an index into an index space of the module, on the current line. The index
+/// is written as [`write_index_of`] does, with 0 for `outer`.
 #[tactic(auto, unfolding(wasmprinter_spec::specs::Layout::Groups::line_group_space))]
 pub fn write_index_group<O: Output>(
     out: &mut O,

@@ -166,7 +166,7 @@ fn write_float<O: Output>(out: &mut O, format: Format, bits: u64)
 /// Writes a 32-bit float, given its bits, in the text format. A finite number is written in hexadecimal, so that
 /// the text has exactly its value. A NaN is written with its payload unless that is the canonical one. A comment
 /// follows infinity and NaN. A minus sign has no style, the rest of the number that of literals. The contract gives the
-/// calls on the printer (`calls`) and the same as a part of the layout (`pieces`).
+/// calls on the printer (`calls`) and the same as a piece of the layout (`pieces`).
 pub fn write_single<O: Output>(out: &mut O, bits: u32)
     ensures calls { O.called out.old out.new (float_calls single bits) }
     ensures pieces { O.wrote out.old out.new (Float single bits ∷ []) }
@@ -175,7 +175,7 @@ pub fn write_single<O: Output>(out: &mut O, bits: u32)
 }
 
 /// Writes a 64-bit float, given its bits, as `write_single` writes a 32-bit float. The contract gives the calls on the
-/// printer (`calls`) and the same as a part of the layout (`pieces`).
+/// printer (`calls`) and the same as a piece of the layout (`pieces`).
 pub fn write_double<O: Output>(out: &mut O, bits: u64)
     ensures calls { O.called out.old out.new (float_calls double bits) }
     ensures pieces { O.wrote out.old out.new (Float double bits ∷ []) }

@@ -13,8 +13,8 @@ const TAKEN_NOTE: &str = "(@metadata.code.branch_hint \"\\01\")";
 /// The annotation of an operator that is unlikely to branch.
 const NOT_TAKEN_NOTE: &str = "(@metadata.code.branch_hint \"\\00\")";
 
-/// Returns the annotation that says whether an operator is likely to branch (`note`). It is the text of the part of the
-/// layout that [`write_hint_annotation`] writes (`shown`).
+/// Returns the annotation of an operator: `(@metadata.code.branch_hint "\01")` if it is likely to branch, otherwise the
+/// same with `"\00"` (`note`). It is the text of the piece that [`write_hint_annotation`] writes (`shown`).
 #[tactic(auto, unfolding(wasmprinter_spec::specs::Quoted::quoted_bytes, wasmprinter_spec::specs::Quoted::byte_text))]
 pub fn hint_text(taken: bool) -> &'static str
     ensures note { result.now ≡ codes "(@metadata.code.branch_hint " ++ (quoted_bytes (flag_byte taken ∷ []) ++ codes ")") }
@@ -23,7 +23,8 @@ pub fn hint_text(taken: bool) -> &'static str
     if taken { TAKEN_NOTE } else { NOT_TAKEN_NOTE }
 }
 
-/// Writes the annotation that says whether the operator after it is likely to branch, in the style of comments.
+/// Writes the annotation that says whether the operator after it is likely to branch ([`hint_text`]), in the style of
+/// comments.
 pub fn write_hint_annotation<O: Output>(out: &mut O, taken: bool)
     ensures { O.wrote out.old out.new (HintAnnotation taken ∷ []) }
 {

@@ -115,7 +115,8 @@ fn write_line_start<O: Output>(out: &mut O, place: Option<u64>, levels: usize)
     write_indent(out, levels);
 }
 
-/// Starts the first line, at this place. It writes no text: neither the place nor an indent.
+/// Starts the first line, at this place: a byte offset from the start of the module. It writes no text: neither the
+/// place nor an indent.
 pub fn start_first_line<O: Output>(out: &mut O, place: u64)
     ensures { O.wrote out.old out.new (Begin place ∷ []) }
 {
@@ -130,8 +131,8 @@ pub fn end_last_line<O: Output>(out: &mut O)
 }
 
 /// Starts a new line at nesting depth `nesting`. `place` is its place, if it has one: a byte offset from the start
-/// of the module. Ends the current line before. If the options ask for places, the new line begins with its place in a
-/// comment, or with the same number of spaces if it has none. The indent follows, once for each level up to 50.
+/// of the module. Ends the current line before. If the options ask for places, the new line begins with its place in
+/// hexadecimal in a comment, or with 11 spaces if it has none. The indent follows, once for each level up to 50.
 pub fn write_break<O: Output>(out: &mut O, place: Option<u64>, nesting: u64)
     ensures { O.wrote out.old out.new (Break place nesting ∷ []) }
 {

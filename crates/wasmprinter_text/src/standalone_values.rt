@@ -23,7 +23,7 @@ pub trait Value {
     /// The calls that write the value.
     ghost calls: { Self → List Call };
 
-    /// Writes the value.
+    /// Writes the value: makes the calls that write it (`calls`), up to the first error.
     fn write<O: Output>(&self, out: &mut O)
         ensures { O.called out.old out.new (calls self.now) };
 }
@@ -93,8 +93,8 @@ fn write_to_printer<P: Print, V: Value>(out: &mut Printer<'_, '_, P, Brand>, val
     value.write(out);
 }
 
-/// Writes a value to a printer. On `Ok`, all calls that write the value ([`Value`]) were made and succeeded, up to how
-/// text is split into calls.
+/// Writes a value to a printer. On `Ok`, all calls that write the value (`calls` of [`Value`]) were made and succeeded,
+/// up to how text is split into calls.
 ///
 /// # Errors
 ///

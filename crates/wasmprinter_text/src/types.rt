@@ -76,8 +76,8 @@ pub(crate) fn write_type_number<O: Output>(
     write_index_of(out, identifiers, Space::Types, 0, u64::from(index));
 }
 
-/// Writes a heap type: its word or, for a type index, the identifier of that type or the index. It is not checked that
-/// there is such a type.
+/// Writes a heap type: its word in the style of types or, for a type index, the index as [`write_index_of`] does. It is
+/// not checked that there is such a type.
 #[tactic(auto, unfolding(wasmprinter_spec::specs::Layout::ValTypes::heap_pieces))]
 pub fn write_heap_type<O: Output>(out: &mut O, identifiers: &Identifiers<'_, '_>, heap: HeapType)
     ensures { O.wrote out.old out.new (heap_pieces (names_of_identifiers identifiers.now) (heap_view heap)) }
@@ -125,8 +125,9 @@ fn write_some_ref<O: Output>(out: &mut O, identifiers: &Identifiers<'_, '_>, hea
     write_close_paren(out);
 }
 
-/// Writes a reference type. A nullable reference to an abstract heap type is one word, such as `funcref`. Any other is
-/// a group, such as `(ref func)` or `(ref null 0)`. A type index in it is written as [`write_heap_type`] does.
+/// Writes a reference type. A nullable reference to an abstract heap type is one word in the style of types, such as
+/// `funcref`. Any other is a group, such as `(ref func)` or `(ref null 0)`, with its heap type as [`write_heap_type`]
+/// does.
 #[tactic(auto, unfolding(wasmprinter_spec::specs::Layout::ValTypes::ref_pieces))]
 pub fn write_ref_type<O: Output>(out: &mut O, identifiers: &Identifiers<'_, '_>, ref_type: RefType)
     ensures { O.wrote out.old out.new (ref_pieces (names_of_identifiers identifiers.now) (ref_view ref_type)) }
@@ -138,7 +139,7 @@ pub fn write_ref_type<O: Output>(out: &mut O, identifiers: &Identifiers<'_, '_>,
     }
 }
 
-/// Writes a value type: a word such as `i32`, or a reference type as [`write_ref_type`] does.
+/// Writes a value type: a word such as `i32` in the style of types, or a reference type as [`write_ref_type`] does.
 #[tactic(auto, unfolding(wasmprinter_spec::specs::Layout::ValTypes::val_pieces))]
 pub fn write_val_type<O: Output>(
     out: &mut O,

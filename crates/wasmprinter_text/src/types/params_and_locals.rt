@@ -139,8 +139,9 @@ fn write_variable_as<O: Output>(
 }
 
 /// Writes a variable, a parameter or a local, and returns the state before the next one: after a variable with an
-/// identifier its group is closed, after another one it is open. A variable without an identifier joins the group that
-/// is open. Before a new group, an open group is closed and a space is written, except at the start of a line.
+/// identifier its group is closed, after another one it is open (`next`). A variable without an identifier joins the
+/// group that is open. Before a new group, an open group is closed and a space is written, except at the start of a
+/// line (`pieces`).
 ///
 /// `owner` is the function of the variable, or `None` for a parameter without a function, which has no identifier.
 /// `number` is the index of the variable among the parameters and locals. `keyword` is the first word of a new group.
