@@ -18,7 +18,7 @@ use Rattle.wasmprinter_spec.specs.Names.Content.{name_of}
 use Rattle.wasmprinter_spec.specs.ModuleNames.{name_entries, module_names}
 use Rattle.wasmprinter_spec.proofs.Ordered.{picks}
 use Rattle.wasmprinter_decoder.specs.Refusals.{HasCustom, KeepsSome}
-use Rattle.wasmprinter_decoder.specs.Decoding.{HoldsSome, IsRefusal}
+use Rattle.wasmprinter_decoder.specs.Decoding.{HoldsSome, HasDecodingReason}
 use Rattle.wasmprinter_bytes.specs.declared.library_error.Error.TheVariants.{Memory}
 use Rattle.wasmprinter.specs.Decoded.{Decoded}
 
@@ -92,7 +92,7 @@ pub same_module : {bytes : List ℕ} (d : Decoded bytes) (n : PlacedModule) → 
 same_module {bytes} d n s = one_module bytes d.placed n d.spelled s
 
 -- If a module has names, a failed allocation for them is a true reason to refuse its bytes.
-pub names_refusal : (bytes : List ℕ) (m : PlacedModule) → Spells bytes m → name_entries m.customs ≢ [] → IsRefusal bytes Memory
+pub names_refusal : (bytes : List ℕ) (m : PlacedModule) → Spells bytes m → name_entries m.customs ≢ [] → HasDecodingReason bytes Memory
 names_refusal bytes m s some =
     let filled : 0 < length m.customs = no_entries m.customs some in
     (keeps_custom bytes m s filled, λ n t. holds_custom n (subst (λ (x : PlacedModule). 0 < length x.customs) (one_module bytes m n s t) filled))

@@ -16,7 +16,7 @@ use Rattle.wasmprinter_print.specs.MadeCalls.{MadeCalls, Broken, Interrupted, En
 use Rattle.wasmprinter_bytes.specs.declared.library_error.Error.{Error}
 use Rattle.wasmprinter_bytes.specs.declared.library_error.Error.TheVariants.{Malformed, Component, TooManyLocals, TooManyFunctions, EmptyTableInit, FoldLegacy, FoldHint, DylinkSubsection, Printer, Memory}
 use Rattle.std.specs.declared.io.Error.{Error as IoError}
-use Rattle.wasmprinter_decoder.specs.Decoding.{IsRefusal}
+use Rattle.wasmprinter_decoder.specs.Decoding.{HasDecodingReason}
 use Rattle.wasmprinter_module_text.specs.Endings.{PrintsLaid}
 use Rattle.wasmprinter_module_text.specs.Sections.{module_laid}
 use Rattle.wasmprinter_spec.specs.Call.{Call}
@@ -50,7 +50,7 @@ not_component bytes placed s c =
     absurd cc
 
 -- Each error of the decoder has its cause.
-pub refusal_cause : {P : Type 0} (printer : Change P) (o : Options) (bytes : List ℕ) (e : Error) → IsRefusal bytes e → HasListedCause printer o bytes e
+pub refusal_cause : {P : Type 0} (printer : Change P) (o : Options) (bytes : List ℕ) (e : Error) → HasDecodingReason bytes e → HasListedCause printer o bytes e
 refusal_cause printer o bytes (Malformed place) h = λ placed s. h.0 placed s
 refusal_cause printer o bytes Component h = λ placed s. not_component bytes placed s h
 refusal_cause printer o bytes (TooManyLocals place) h = λ placed s. h.1 placed s
@@ -60,7 +60,7 @@ refusal_cause printer o bytes Memory h = λ placed s. inl (h.1 placed s)
 refusal_cause printer o bytes _ h = absurd h
 
 -- Each error of the decoder is true of the bytes.
-refusal_true : (o : Options) (bytes : List ℕ) (e : Error) → IsRefusal bytes e → IsSoundRefusal o bytes e
+refusal_true : (o : Options) (bytes : List ℕ) (e : Error) → HasDecodingReason bytes e → IsSoundRefusal o bytes e
 refusal_true o bytes (Printer x) h = absurd h
 refusal_true o bytes (DylinkSubsection id) h = absurd h
 refusal_true o bytes (FoldLegacy place) h = absurd h
@@ -69,11 +69,11 @@ refusal_true o bytes Memory h = inl h
 refusal_true o bytes _ h = h
 
 -- Each error of the decoder is a refusal of printing.
-pub print_refusal : {P : Type 0} (printer : Change P) (o : Options) (bytes : List ℕ) (e : Error) → IsRefusal bytes e → IsPrintRefusal printer o bytes e
+pub print_refusal : {P : Type 0} (printer : Change P) (o : Options) (bytes : List ℕ) (e : Error) → HasDecodingReason bytes e → IsPrintRefusal printer o bytes e
 print_refusal printer o bytes e h = record { true_of = refusal_true o bytes e h; caused = refusal_cause printer o bytes e h }
 
 -- Each error of the decoder leaves the printer unchanged.
-pub refusal_left : {P : Type 0} (printer : Change P) (colors : Bool) (o : Options) (bytes : List ℕ) (e : Error) → printer.new ≡ printer.old → IsRefusal bytes e →
+pub refusal_left : {P : Type 0} (printer : Change P) (colors : Bool) (o : Options) (bytes : List ℕ) (e : Error) → printer.new ≡ printer.old → HasDecodingReason bytes e →
     Leaves printer colors o bytes e
 refusal_left printer colors o bytes (Malformed place) same h = same
 refusal_left printer colors o bytes Component same h = same

@@ -6,10 +6,10 @@ use Rattle.wasmprinter_spec.specs.Name.{u32}
 use Rattle.wasmprinter_spec.specs.Operator.{Operator}
 use Rattle.wasmprinter_spec.specs.Placed.{ElementMode, Items, element_of, entry_of}
 use Rattle.wasmprinter_spec.specs.Binary.Elements.{segment, element_after, element}
-use Rattle.wasmprinter_decoder.specs.Segments.{names_table, mode_by, items_by}
+use Rattle.wasmprinter_decoder.specs.Segments.{has_table_index, mode_by, items_by}
 
 -- For flags below 8, the mode and the items can be read separately.
-in_parts : (flags : ℕ) (at : Input) → flags < 8 → (element_after flags).parse at ≡ (segment (names_table flags) (mode_by flags) (items_by flags)).parse at
+in_parts : (flags : ℕ) (at : Input) → flags < 8 → (element_after flags).parse at ≡ (segment (has_table_index flags) (mode_by flags) (items_by flags)).parse at
 in_parts zero at lt = refl
 in_parts (suc zero) at lt = refl
 in_parts (suc (suc zero)) at lt = refl
@@ -42,7 +42,7 @@ module _ (old mid : Input) (flags : ℕ) (read : u32.parse old ≡ Some (flags, 
     -- If no mode can be read after the flags, no segment can be read.
     pub element_no_mode : (mode_by flags).parse mid ≡ None → (value_with_place element).parse old ≡ None
     element_no_mode e =
-        let parts : (segment (names_table flags) (mode_by flags) (items_by flags)).parse mid ≡ None = rw e refl in
+        let parts : (segment (has_table_index flags) (mode_by flags) (items_by flags)).parse mid ≡ None = rw e refl in
         let none : (element_after flags).parse mid ≡ None = in_parts flags mid lt ∙ parts in
         rw (read, none) refl
 
@@ -50,14 +50,14 @@ module _ (old mid : Input) (flags : ℕ) (read : u32.parse old ≡ Some (flags, 
       -- If a mode can be read, but no items, no segment can be read.
       pub element_no_items : (items_by flags).parse after ≡ None → (value_with_place element).parse old ≡ None
       element_no_items e =
-          let parts : (segment (names_table flags) (mode_by flags) (items_by flags)).parse mid ≡ None = rw (first, e) refl in
+          let parts : (segment (has_table_index flags) (mode_by flags) (items_by flags)).parse mid ≡ None = rw (first, e) refl in
           let none : (element_after flags).parse mid ≡ None = in_parts flags mid lt ∙ parts in
           rw (read, none) refl
 
       -- If a mode and items are read, they are those of the segment.
       pub element_read : (new : Input) (items : Items (Placed Operator)) → (items_by flags).parse after ≡ Some (items, new)
-          → (value_with_place element).parse old ≡ Some (record { place = old.place; value = entry_of (names_table flags) (element_of mode items) }, new)
+          → (value_with_place element).parse old ≡ Some (record { place = old.place; value = entry_of (has_table_index flags) (element_of mode items) }, new)
       element_read new items e =
-          let parts : (segment (names_table flags) (mode_by flags) (items_by flags)).parse mid ≡ Some (entry_of (names_table flags) (element_of mode items), new) = rw (first, e) refl in
-          let some : (element_after flags).parse mid ≡ Some (entry_of (names_table flags) (element_of mode items), new) = in_parts flags mid lt ∙ parts in
+          let parts : (segment (has_table_index flags) (mode_by flags) (items_by flags)).parse mid ≡ Some (entry_of (has_table_index flags) (element_of mode items), new) = rw (first, e) refl in
+          let some : (element_after flags).parse mid ≡ Some (entry_of (has_table_index flags) (element_of mode items), new) = in_parts flags mid lt ∙ parts in
           rw (read, some) refl

@@ -48,8 +48,8 @@ abbrev pub IsFaultOf : List ℕ → Error → Type 0
 IsFaultOf bytes e = HasReason (module_reasons bytes ⊥) e
 
 -- The error has a true reason.
-abbrev pub IsRefusal : List ℕ → Error → Type 0
-IsRefusal bytes e = HasReason (module_reasons bytes (IsComponent bytes)) e
+abbrev pub HasDecodingReason : List ℕ → Error → Type 0
+HasDecodingReason bytes e = HasReason (module_reasons bytes (IsComponent bytes)) e
 
 -- On success the bytes encode the module, and it is within the limits. An error has a true reason.
 abbrev pub TakesModule : List ℕ → Result PlacedModule Error → Type 0

@@ -40,17 +40,17 @@ extern_view (x.Global g) = GlobalExtern (global_type_view g)
 extern_view (x.Tag i) = TagExtern i
 
 -- The exponent of the page size, if given, is below 64.
-abbrev pub IsPage : Option ℕ → Type 0
-IsPage None = Unit {0}
-IsPage (Some exponent) = exponent < 64
+abbrev pub IsPageExponent : Option ℕ → Type 0
+IsPageExponent None = Unit {0}
+IsPageExponent (Some exponent) = exponent < 64
 
 -- The same for the type of an imported memory. An import of another kind satisfies it.
-abbrev pub HasPage : ExternType → Type 0
-HasPage (x.Func i) = Unit {0}
-HasPage (x.Table t) = Unit {0}
-HasPage (x.Memory m) = IsPage m.page
-HasPage (x.Global g) = Unit {0}
-HasPage (x.Tag i) = Unit {0}
+abbrev pub HasPageExponent : ExternType → Type 0
+HasPageExponent (x.Func i) = Unit {0}
+HasPageExponent (x.Table t) = Unit {0}
+HasPageExponent (x.Memory m) = IsPageExponent m.page
+HasPageExponent (x.Global g) = Unit {0}
+HasPageExponent (x.Tag i) = Unit {0}
 
 -- The kind that a kind of the program represents.
 abbrev pub kind_view : ExternKind → DefinedKind

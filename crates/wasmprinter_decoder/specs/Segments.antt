@@ -71,8 +71,8 @@ abbrev pub holds_expressions : ℕ → Bool
 holds_expressions flags = has_bit 2 flags
 
 -- The flags of a segment with an explicit table index.
-abbrev pub names_table : ℕ → Bool
-names_table flags = not (is_inactive flags) && is_explicit flags
+abbrev pub has_table_index : ℕ → Bool
+has_table_index flags = not (is_inactive flags) && is_explicit flags
 
 -- The flags of a segment in which neither the kind nor the type of the items is written; the
 -- items are then functions.

@@ -7,7 +7,7 @@ ghost use Rattle.wasmprinter_spec.specs.Limits.{IsWithinLimits};
 ghost use Rattle.wasmprinter_bytes.specs.Reads.{Decodes};
 ghost use Rattle.wasmprinter_decoder.specs.Sections.{section_view};
 ghost use Rattle.wasmprinter_decoder.specs.Gathering.{none_gathered, with_section, IsWhole, TakesSections};
-ghost use Rattle.wasmprinter_decoder.specs.Decoding.{IsRefusal, HoldsNothing, TakesModule};
+ghost use Rattle.wasmprinter_decoder.specs.Decoding.{HasDecodingReason, HoldsNothing, TakesModule};
 
 use crate::code::Body;
 use crate::custom_section_positions::{CustomEntry, SectionKind};
@@ -256,7 +256,7 @@ fn read_module<'a>(alloc: Global, wasm: &'a [u8]) -> Result<Module<'a>, Error>
 /// custom sections is always decoded (`empty`).
 pub fn decode<'a>(alloc: Global, wasm: &'a [u8]) -> Result<Module<'a>, Error>
     ensures ok { IfOk result (λ m. Spells wasm.now m × IsWithinLimits m) }
-    ensures refused { IfErr result (IsRefusal wasm.now) }
+    ensures refused { IfErr result (HasDecodingReason wasm.now) }
     ensures component { IsErrOf result Error.Component ↔ IsComponent wasm.now }
 
     // If the bytes encode a module within the limits, the only possible error is `Memory`.

@@ -8,7 +8,7 @@ ghost use Rattle.wasmprinter_bytes.specs.Lists.{Takes, reader, CountsItems};
 ghost use Rattle.wasmprinter_decoder.specs.Growing.{ModeGrows, ItemsGrow, ElementGrows};
 ghost use Rattle.wasmprinter_ops.specs.ValTypes.{ref_view};
 ghost use Rattle.wasmprinter_decoder.specs.Contents.{DecodesContent};
-ghost use Rattle.wasmprinter_decoder.specs.Segments.{element_mode_view, element_items_view, mode_by, items_by, names_table, omits_kind};
+ghost use Rattle.wasmprinter_decoder.specs.Segments.{element_mode_view, element_items_view, mode_by, items_by, has_table_index, omits_kind};
 
 use crate::byte_checks::{expect_end, read_only};
 use crate::flag_bits::has_bit;
@@ -72,7 +72,7 @@ pub enum ElementItems<'a> {
 #[derive(Drop)]
 pub struct Element<'a> {
     place: u64,
-    names_table: bool,
+    has_table_index: bool,
     mode: ElementMode<'a>,
     items: ElementItems<'a>,
 }
@@ -86,7 +86,7 @@ impl<'a> Model for Element<'a> {
 
     ghost view = { λ e. record {
       place = e.place;
-      value = entry_of e.names_table (element_of (element_mode_view e.mode) (element_items_view e.items));
+      value = entry_of e.has_table_index (element_of (element_mode_view e.mode) (element_items_view e.items));
     } };
 }
 
@@ -147,7 +147,7 @@ impl<'a> ElementItems<'a> {
 
 /// Reports whether a table index follows the flags.
 fn announce_table(flags: u32) -> bool
-    ensures { result ≡ names_table flags }
+    ensures { result ≡ has_table_index flags }
 {
     !has_bit(flags, INACTIVE_BIT) && has_bit(flags, EXPLICIT_BIT)
 }
@@ -175,7 +175,7 @@ impl<'a> GrownIn<'a> for Element<'a> {
         let items = ElementItems::read(alloc, flags, cursor)?;
         Ok(Element {
             place,
-            names_table: announce_table(flags),
+            has_table_index: announce_table(flags),
             mode,
             items,
         })
@@ -192,10 +192,10 @@ impl<'a> Element<'a> {
 
     /// Reports whether the bytes contain the segment's table index. In the binary format, an active segment without one
     /// uses table 0.
-    pub fn names_table(&self) -> bool
-        ensures { result ≡ self.now.value.names_table }
+    pub fn has_table_index(&self) -> bool
+        ensures { result ≡ self.now.value.has_table_index }
     {
-        self.names_table
+        self.has_table_index
     }
 
     /// Returns the mode. The table of an active segment may not exist.

@@ -5,7 +5,7 @@ ghost use Rattle.wasmprinter_spec.specs.Binary.Imports.{extern_type as extern_ty
 ghost use Rattle.wasmprinter_spec.specs.Sections.{ImportSection};
 ghost use Rattle.wasmprinter_bytes.specs.Reads.{Decodes};
 ghost use Rattle.wasmprinter_decoder.specs.Contents.{DecodesContent};
-ghost use Rattle.wasmprinter_decoder.specs.Externs.{extern_view, HasPage, kind_view, kind_of_type};
+ghost use Rattle.wasmprinter_decoder.specs.Externs.{extern_view, HasPageExponent, kind_view, kind_of_type};
 
 use crate::byte_checks::expect_end;
 use crate::exports::ExternKind;
@@ -38,7 +38,7 @@ impl ExternType {
     /// Reads the byte of a kind, and a type of that kind.
     fn read(cursor: &mut Cursor) -> Result<ExternType, Malformed>
         ensures decodes { Decodes extern_view extern_type_grammar.parse cursor.old result cursor.new }
-        ensures page { IfOk result HasPage }
+        ensures page { IfOk result HasPageExponent }
     {
         let place = cursor.place();
         match cursor.u8()? {
@@ -77,13 +77,13 @@ pub struct Import<'a> {
 impl<'a> Model for Import<'a> {
     ghost use Rattle.wasmprinter_spec.specs.Grammar.{Placed};
     ghost use Rattle.wasmprinter_spec.specs.Placed.{Import as ImportValue, import_of};
-    ghost use Rattle.wasmprinter_decoder.specs.Externs.{extern_view, HasPage};
+    ghost use Rattle.wasmprinter_decoder.specs.Externs.{extern_view, HasPageExponent};
 
     ghost Value = { Placed ImportValue };
 
     ghost view = { λ i. record { place = i.place; value = import_of i.module.now i.name.now (extern_view i.ty) } };
 
-    ghost invariant = { λ i. HasPage i.ty };
+    ghost invariant = { λ i. HasPageExponent i.ty };
 }
 
 impl<'a> DecodeIn<'a> for Import<'a> {
@@ -136,7 +136,7 @@ impl<'a> Import<'a> {
     /// (`page`). The type index of a function or a tag may refer to no type, or to a type that is not a function type.
     pub fn ty(&self) -> ExternType
         ensures is { extern_view result ≡ self.now.value.type }
-        ensures page { HasPage result }
+        ensures page { HasPageExponent result }
     {
         self.ty
     }

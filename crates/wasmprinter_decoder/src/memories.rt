@@ -5,7 +5,7 @@ ghost use Rattle.wasmprinter_spec.specs.Binary.Memories.{page as page_grammar, m
 ghost use Rattle.wasmprinter_spec.specs.Sections.{MemorySection};
 ghost use Rattle.wasmprinter_bytes.specs.Reads.{Decodes};
 ghost use Rattle.wasmprinter_decoder.specs.Contents.{DecodesContent};
-ghost use Rattle.wasmprinter_decoder.specs.Externs.{memory_type_view, IsPage};
+ghost use Rattle.wasmprinter_decoder.specs.Externs.{memory_type_view, IsPageExponent};
 
 use crate::byte_checks::expect_end;
 use crate::flag_bits::has_bit;
@@ -48,19 +48,19 @@ pub struct Memory {
 impl Model for Memory {
     ghost use Rattle.wasmprinter_spec.specs.Grammar.{Placed};
     ghost use Rattle.wasmprinter_spec.specs.Types.{MemoryType as MemoryTypeValue};
-    ghost use Rattle.wasmprinter_decoder.specs.Externs.{memory_type_view, IsPage};
+    ghost use Rattle.wasmprinter_decoder.specs.Externs.{memory_type_view, IsPageExponent};
 
     ghost Value = { Placed MemoryTypeValue };
 
     ghost view = { λ m. record { place = m.place; value = memory_type_view m.ty } };
 
-    ghost invariant = { λ m. IsPage m.ty.page };
+    ghost invariant = { λ m. IsPageExponent m.ty.page };
 }
 
 /// Reads the exponent of the page size, if it is given.
 fn read_page(cursor: &mut Cursor, is_given: bool) -> Result<Option<u32>, Malformed>
     ensures decodes { Decodes (λ p. p) (page_grammar is_given).parse cursor.old result cursor.new }
-    ensures fits { IfOk result IsPage }
+    ensures fits { IfOk result IsPageExponent }
 {
     if !is_given {
         return Ok(None);
@@ -78,7 +78,7 @@ impl MemoryType {
     /// Reads the flags, the limits and the page size.
     pub(crate) fn read(cursor: &mut Cursor) -> Result<MemoryType, Malformed>
         ensures decodes { Decodes memory_type_view memory_type_grammar.parse cursor.old result cursor.new }
-        ensures fits { IfOk result (λ m. IsPage m.page) }
+        ensures fits { IfOk result (λ m. IsPageExponent m.page) }
     {
         let place = cursor.place();
         let flags = u32::from(cursor.u8()?);
@@ -117,7 +117,7 @@ impl Memory {
     /// Returns the type (`is`). The exponent of its page size, if given, is below 64 (`page`).
     pub fn ty(&self) -> MemoryType
         ensures is { memory_type_view result ≡ self.now.value }
-        ensures page { IsPage result.page }
+        ensures page { IsPageExponent result.page }
     {
         self.ty
     }

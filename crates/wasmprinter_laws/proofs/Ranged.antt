@@ -79,7 +79,7 @@ AreRangedItems (Functions is) = AllByRecursion (λ i. i < 2 ^ 32) is
 AreRangedItems (Expressions t es) = IsRangedHeap t.heap × AllByRecursion IsRangedExpression es
 
 pub record IsRangedElement (e : ElementEntry) : Type 0 where
-  pub mode : IsRangedMode e.names_table e.element.mode
+  pub mode : IsRangedMode e.has_table_index e.element.mode
   pub items : AreRangedItems e.element.items
 
 abbrev pub IsRangedDataMode : DataMode (Placed Operator) → Type 0

@@ -32,17 +32,17 @@ fn write_named_table<O: Output>(out: &mut O, scope: &Scope<'_, '_>, is_named: bo
     write_index_group_in(out, scope, "table", Space::Table, table);
 }
 
-/// Writes the mode of a segment, after a space unless the segment is passive. `names_table` says whether the bytes
+/// Writes the mode of a segment, after a space unless the segment is passive. `has_table_index` says whether the bytes
 /// name its table.
 #[tactic(auto, unfolding(wasmprinter_spec::specs::Layout::Elements::mode_pieces))]
 fn write_element_mode<O: FoldingOutput>(
     out: &mut O,
     scope: &mut Scope<'_, '_>,
-    names_table: bool,
+    has_table_index: bool,
     mode: &ElementMode<'_>,
 )
     ensures pieces { O.wrote out.old out.new
-        (mode_pieces (scope_view O.chosen scope.old) names_table (element_mode_view mode.now)) }
+        (mode_pieces (scope_view O.chosen scope.old) has_table_index (element_mode_view mode.now)) }
     ensures scope { scope_view O.chosen scope.new ≡ scope_view O.chosen scope.old }
 {
     match mode {
@@ -52,7 +52,7 @@ fn write_element_mode<O: FoldingOutput>(
             write_word(out, "declare");
         }
         ElementMode::Active { table, offset } => {
-            write_named_table(out, scope, names_table, *table);
+            write_named_table(out, scope, has_table_index, *table);
             write_space(out);
             write_constant_group(out, scope, "offset", offset);
         }
@@ -165,7 +165,7 @@ impl<'a> Field for Element<'a> {
 
     fn write_parts<O: FoldingOutput>(&self, out: &mut O, scope: &mut Scope<'_, '_>, number: u64) {
         write_declaration_in(out, scope, Space::Elem, number);
-        write_element_mode(out, scope, self.names_table(), self.mode());
+        write_element_mode(out, scope, self.has_table_index(), self.mode());
         write_space(out);
         write_shown_items(out, scope, self.items());
     }

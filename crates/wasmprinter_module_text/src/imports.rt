@@ -2,7 +2,7 @@
 ghost use Rattle.std.specs.Prelude.{◌≡◌, ◌+◌, ◌<◌, ◌^◌, codes, length};
 ghost use Rattle.wasmprinter_spec.specs.Layout.Imports.{number_of, numbers_after, no_numbers};
 ghost use Rattle.wasmprinter_spec.specs.Layout.Imports.{extern_pieces, imports_pieces, extern_parts, import_parts};
-ghost use Rattle.wasmprinter_decoder.specs.Externs.{extern_view, HasPage};
+ghost use Rattle.wasmprinter_decoder.specs.Externs.{extern_view, HasPageExponent};
 ghost use Rattle.wasmprinter_module_text.specs.Scopes.{scope_view};
 
 use crate::exports::kind_word;
@@ -91,7 +91,7 @@ fn write_extern_parts<O: Output>(
     number: u64,
     extern_type: ExternType,
 )
-    requires { HasPage extern_type }
+    requires { HasPageExponent extern_type }
     ensures { O.wrote out.old out.new
         (extern_parts (scope_view O.chosen scope.now) number (extern_view extern_type)) }
 {
@@ -111,7 +111,7 @@ fn write_extern_type<O: Output>(
     number: u64,
     extern_type: ExternType,
 )
-    requires { HasPage extern_type }
+    requires { HasPageExponent extern_type }
     ensures { O.wrote out.old out.new
         (extern_pieces (scope_view O.chosen scope.now) number (extern_view extern_type)) }
 {

@@ -3,7 +3,7 @@
 ghost use Rattle.std.specs.Prelude.{◌<◌, codes};
 ghost use Rattle.wasmprinter_spec.specs.Layout.Groups.{line_group_space};
 ghost use Rattle.wasmprinter_spec.specs.Layout.Memories.{shared_pieces, page_pieces, memory_type_pieces, page_parts, declared_memory};
-ghost use Rattle.wasmprinter_decoder.specs.Externs.{memory_type_view, IsPage};
+ghost use Rattle.wasmprinter_decoder.specs.Externs.{memory_type_view, IsPageExponent};
 ghost use Rattle.wasmprinter_module_text.specs.Scopes.{scope_view};
 
 use crate::field_trait::Field;
@@ -40,7 +40,7 @@ fn write_page_group<O: Output>(out: &mut O, exponent: u32)
 
 /// Writes a space and the page size, if it is given.
 fn write_page<O: Output>(out: &mut O, page: Option<u32>)
-    requires { IsPage page }
+    requires { IsPageExponent page }
     ensures { O.wrote out.old out.new (page_pieces page) }
 {
     if let Some(exponent) = page {
@@ -52,7 +52,7 @@ fn write_page<O: Output>(out: &mut O, page: Option<u32>)
 /// Writes the type of a memory.
 #[tactic(auto, unfolding(wasmprinter_spec::specs::Layout::Memories::memory_type_pieces))]
 fn write_memory_type<O: Output>(out: &mut O, memory_type: MemoryType)
-    requires { IsPage memory_type.page }
+    requires { IsPageExponent memory_type.page }
     ensures { O.wrote out.old out.new
         (memory_type_pieces (memory_type_view memory_type)) }
 {
@@ -69,7 +69,7 @@ pub(crate) fn write_declared_memory<O: Output>(
     number: u64,
     memory_type: MemoryType,
 )
-    requires { IsPage memory_type.page }
+    requires { IsPageExponent memory_type.page }
     ensures { O.wrote out.old out.new
         (declared_memory (scope_view O.chosen scope.now) number (memory_type_view memory_type)) }
 {

@@ -24,7 +24,7 @@ close_at o place nesting begun = close (Some place) nesting (o.offsets || begun)
 
 -- A group was closed: its closing parenthesis was written, and then the group was left. `parenthesis` is what closes
 -- it, by whether a line has begun in it.
-pub record Closed {S : Type 0} (g : Groups S) (old new : S) (parenthesis : Bool → List Piece) (outer_begun : Bool) : Type 0 where
+pub record ClosedGroup {S : Type 0} (g : Groups S) (old new : S) (parenthesis : Bool → List Piece) (outer_begun : Bool) : Type 0 where
   pub last : S
   pub written : g.wrote old last (parenthesis (g.begun old))
   pub leaves : g.left_group last new outer_begun
@@ -92,14 +92,14 @@ module _ {S : Type 0} (wrote : S → S → List Piece → Type 0) (begun : S →
   abbrev pub GroupOf : Type 0
   GroupOf =
       (a s t v : S) (outer_begun : Bool) (place : Option ℕ) (n : ℕ) (xs : List Piece) → opened a s outer_begun → wrote s t xs →
-      Closed (groups wrote begun left_group) t v (close place n) outer_begun → wrote a v (xs ++ close place n (has_break xs))
+      ClosedGroup (groups wrote begun left_group) t v (close place n) outer_begun → wrote a v (xs ++ close place n (has_break xs))
 
 module _ {S : Type 0} (o : Options) (wrote : S → S → List Piece → Type 0) (begun : S → Bool) (opened left_group : S → S → Bool → Type 0) where
   -- The contents of a group that ends at a place, and its closing parenthesis.
   abbrev pub GroupAtOf : Type 0
   GroupAtOf =
       (a s t v : S) (outer_begun : Bool) (place n : ℕ) (xs : List Piece) → opened a s outer_begun → wrote s t xs →
-      Closed (groups wrote begun left_group) t v (close_at o place n) outer_begun → wrote a v (xs ++ close (Some place) n (o.offsets || has_break xs))
+      ClosedGroup (groups wrote begun left_group) t v (close_at o place n) outer_begun → wrote a v (xs ++ close (Some place) n (o.offsets || has_break xs))
 
 module _ {S : Type 0} (o : Options) (wrote : S → S → List Piece → Type 0) (laid : S → S → List Part → Type 0) (begun : S → Bool)
     (opened left_group : S → S → Bool → Type 0) where
@@ -108,5 +108,5 @@ module _ {S : Type 0} (o : Options) (wrote : S → S → List Piece → Type 0) 
   abbrev pub PartsAtOf : Type 0
   PartsAtOf =
       (a s t v : S) (outer_begun : Bool) (place n : ℕ) (ps : List Part) → opened a s outer_begun → laid s t ps →
-      Closed (groups wrote begun left_group) t v (close_at o place n) outer_begun →
+      ClosedGroup (groups wrote begun left_group) t v (close_at o place n) outer_begun →
       laid a v (ps ++ (Shown (close (Some place) n (o.offsets || has_break (laid_parts ps).pieces)) ∷ []))

@@ -109,12 +109,12 @@ element_of mode items = record { mode = mode; items = items }
 
 -- An element segment as the bytes encode it. The bytes may name its table or leave it out.
 pub record ElementEntry : Type 0 where
-  pub names_table : Bool
+  pub has_table_index : Bool
   pub element : Element (Placed Operator)
 
 -- The element segment, of which the bytes name the table or not.
 abbrev pub entry_of : Bool → Element (Placed Operator) → ElementEntry
-entry_of names e = record { names_table = names; element = e }
+entry_of names e = record { has_table_index = names; element = e }
 
 -- The mode of a data segment: passive, or active with the memory and the offset.
 pub data DataMode (O : Type 0) : Type 0 where

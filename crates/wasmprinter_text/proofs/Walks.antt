@@ -21,7 +21,7 @@ module _ (names : Names) (w : List ℕ) where
   rest_pieces : Before → List Variables → List Piece
   rest_pieces before.Line [] = []
   rest_pieces before.Line (g ∷ gs) = variables_pieces names w g ++ groups_pieces names w gs
-  rest_pieces before.Closed gs = groups_pieces names w gs
+  rest_pieces before.ClosedGroup gs = groups_pieces names w gs
   rest_pieces before.Open (Together ts ∷ gs) = type_list names ts ++ (CloseParen ∷ groups_pieces names w gs)
   rest_pieces before.Open gs = CloseParen ∷ groups_pieces names w gs
 
@@ -42,7 +42,7 @@ module _ (names : Names) (w : List ℕ) where
       unnamed_pieces names w b t ++ (type_list names ts ++ (CloseParen ∷ groups_pieces names w gs)) ≡ rest_pieces b (Together (t ∷ ts) ∷ gs)
   unfolding rest_pieces groups_pieces
   together before.Line t ts gs = group_longer t ts (groups_pieces names w gs)
-  together before.Closed t ts gs = ap (λ xs. OneSpace ∷ xs) (group_longer t ts (groups_pieces names w gs))
+  together before.ClosedGroup t ts gs = ap (λ xs. OneSpace ∷ xs) (group_longer t ts (groups_pieces names w gs))
   together before.Open t ts gs = longer t ts (groups_pieces names w gs)
 
   -- A variable and the rest after it are the pieces of the groups with that variable first, in any state.
@@ -50,7 +50,7 @@ module _ (names : Names) (w : List ℕ) where
       variable_pieces names w b n t ++ rest_pieces (before_next n) gs ≡ rest_pieces b (with_variable n t gs)
   unfolding rest_pieces groups_pieces type_list
   step before.Line (Some n) t gs = refl
-  step before.Closed (Some n) t gs = refl
+  step before.ClosedGroup (Some n) t gs = refl
   step before.Open (Some n) t gs = refl
   step b None t [] = together b t [] []
   step b None t (Together ts ∷ gs) = together b t ts gs
@@ -60,16 +60,16 @@ module _ (names : Names) (w : List ℕ) where
       walk_pieces names w named b k ts ≡ rest_pieces b (variable_groups named k ts)
   unfolding rest_pieces groups_pieces
   walk-rest named before.Line k [] = refl
-  walk-rest named before.Closed k [] = refl
+  walk-rest named before.ClosedGroup k [] = refl
   walk-rest named before.Open k [] = refl
   walk-rest named b k (t ∷ ts) =
       ap (λ ps. variable_pieces names w b (named k) t ++ ps) (walk-rest named (before_next (named k)) (k + 1) ts) ∙ step b (named k) t (variable_groups named (k + 1) ts)
 
   -- From the state without an open group, the pass writes the groups, with a space before each.
   pub walk-groups : (named : ℕ → Option Named) (k : ℕ) (ts : List ValType) →
-      walk_pieces names w named before.Closed k ts ≡ groups_pieces names w (variable_groups named k ts)
+      walk_pieces names w named before.ClosedGroup k ts ≡ groups_pieces names w (variable_groups named k ts)
   unfolding rest_pieces
-  walk-groups named k ts = walk-rest named before.Closed k ts
+  walk-groups named k ts = walk-rest named before.ClosedGroup k ts
 
 module _ (names : Names) (w : List ℕ) (named : ℕ → Option Named) where
   -- The pass over a list of variables writes the first variable and passes over the others.

@@ -13,7 +13,7 @@ use Rattle.wasmprinter_text.specs.declared.types.params_and_locals.Before.TheVar
 -- The pieces before a new group.
 abbrev pub front_pieces : Before → List Piece
 front_pieces before.Line = []
-front_pieces before.Closed = OneSpace ∷ []
+front_pieces before.ClosedGroup = OneSpace ∷ []
 front_pieces before.Open = CloseParen ∷ (OneSpace ∷ [])
 
 -- The pieces after the last variable: a group that is open is closed.
@@ -23,7 +23,7 @@ end_pieces _ = []
 
 -- The state after a variable with this identifier.
 abbrev pub before_next : Option Named → Before
-before_next (Some n) = before.Closed
+before_next (Some n) = before.ClosedGroup
 before_next None = before.Open
 
 module _ (names : Names) (w : List ℕ) where

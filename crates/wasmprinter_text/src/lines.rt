@@ -4,7 +4,7 @@ ghost use Rattle.std.specs.Fmt.{digits};
 ghost use Rattle.wasmprinter_spec.specs.Call.{Text, Newline, Line};
 ghost use Rattle.wasmprinter_spec.specs.Piece.{Begin, EndLine, Break, most_indents, repetition_of, left_in, place_width, place_calls};
 ghost use Rattle.wasmprinter_spec.specs.Layout.Groups.{close};
-ghost use Rattle.wasmprinter_print.specs.OutputLaws.{Closed, groups, close_at};
+ghost use Rattle.wasmprinter_print.specs.OutputLaws.{ClosedGroup, groups, close_at};
 
 use crate::integers::{hexadecimal_len, write_hexadecimal};
 use wasmprinter_print::{Output, Style};
@@ -163,7 +163,7 @@ fn write_close<O: Output>(out: &mut O, place: Option<u64>, nesting: u64, on_new_
 /// says whether a line had begun in the group around it, as `enter_group` returned. A line that began in the group has
 /// then begun in the group around it.
 pub fn close_group<O: Output>(out: &mut O, nesting: u64, outer_begun: bool)
-    ensures { Closed (groups O.wrote O.begun O.left_group) out.old out.new (close None nesting) outer_begun }
+    ensures { ClosedGroup (groups O.wrote O.begun O.left_group) out.old out.new (close None nesting) outer_begun }
 {
     let on_new_line = out.has_begun();
     write_close(out, None, nesting, on_new_line);
@@ -175,7 +175,7 @@ pub fn close_group<O: Output>(out: &mut O, nesting: u64, outer_begun: bool)
 /// depth of the group itself. `outer_begun` says whether a line had begun in the group around it, as `enter_group`
 /// returned. A line that began in the group has then begun in the group around it.
 pub fn close_group_at<O: Output>(out: &mut O, place: u64, nesting: u64, outer_begun: bool)
-    ensures { Closed (groups O.wrote O.begun O.left_group) out.old out.new (close_at O.chosen place nesting) outer_begun }
+    ensures { ClosedGroup (groups O.wrote O.begun O.left_group) out.old out.new (close_at O.chosen place nesting) outer_begun }
 {
     let on_new_line = out.offsets() || out.has_begun();
     write_close(out, Some(place), nesting, on_new_line);

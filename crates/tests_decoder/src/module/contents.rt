@@ -155,10 +155,10 @@ fn counts_of(items: &ElementItems) -> (u32, usize) {
 
 /// The segment is at the place `FIRST`, with an offset of one operator if it is active.
 impl Compared<Segment> for Element<'_> {
-    fn is(&self, (table, names_table, functions, expressions): &Segment) -> bool {
+    fn is(&self, (table, has_table_index, functions, expressions): &Segment) -> bool {
         is_active_for(self.mode(), *table)
             && self.place() == FIRST
-            && self.names_table() == *names_table
+            && self.has_table_index() == *has_table_index
             && counts_of(self.items()) == (*functions, *expressions)
     }
 }

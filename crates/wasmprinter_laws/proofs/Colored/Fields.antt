@@ -100,7 +100,7 @@ module _ (x y : Option Folding) (d : Bared x y) (s : Scope) where
   unfolding element_pieces
   element_so skeleton i e =
       same (in_group_space 1 (codes "elem") (after (item_declaration s row.Elem i)
-      (both (mode_so e.value.names_table e.value.element.mode) (same (shown_so skeleton e.value.element.items)))))
+      (both (mode_so e.value.has_table_index e.value.element.mode) (same (shown_so skeleton e.value.element.items)))))
 
   data_mode_so : (m : DataMode (Placed Operator)) → Recolored (data_mode_pieces (in_way s x) m) (data_mode_pieces (in_way s y) m)
   unfolding data_mode_pieces

@@ -69,7 +69,7 @@ module _ (s : Scope) where
   -- An element segment without its identifier
   abbrev pub segment_items : Bool → ElementEntry → Forest
   segment_items skeleton e =
-      mode_items e.names_table e.element.mode (shown_items_items skeleton e.element.items)
+      mode_items e.has_table_index e.element.mode (shown_items_items skeleton e.element.items)
 
   -- The items of an element segment after its word
   abbrev pub element_items : Bool → ℕ → ElementEntry → Forest
@@ -127,7 +127,7 @@ module _ (s : Scope) (named : AreNamed s.names) (ranged : AreSignaturesInRange (
   element_writes skeleton i e small h =
       break_writes (group_space_writes 1 (codes "elem") _ refl refl
       (both_write (declaration_writes (s.names.items row.Elem i) i (named.items row.Elem i) small)
-      (mode_writes e.value.names_table e.value.element.mode h.mode (shown_items_write skeleton e.value.element.items h.items))))
+      (mode_writes e.value.has_table_index e.value.element.mode h.mode (shown_items_write skeleton e.value.element.items h.items))))
 
 -- ---- the items read back
 
@@ -137,7 +137,7 @@ identifier_in_front-items s (Functions is) = refl
 identifier_in_front-items s (Expressions t es) = identifier_in_front-ref s.names t.nullable t.heap (expressions_items s es)
 
 identifier_in_front-segment : (s : Scope) (e : ElementEntry) → identifier_in_front (segment_items s false e) ≡ (None, segment_items s false e)
-identifier_in_front-segment s e = by e.names_table e.element.mode
+identifier_in_front-segment s e = by e.has_table_index e.element.mode
   where
     by : (names : Bool) (m : ElementMode (Placed Operator)) →
         identifier_in_front (mode_items s names m (items_items s e.element.items)) ≡
@@ -254,5 +254,5 @@ module _ (s : Scope) (c : Context) (n : Counts) (scoped : AreScoped s c n) where
       read_element c (element_items s false i e) ≡ Some (element_without_places e)
   read_element-items i e h d k =
       ap (λ x. segment c x.1) (identifier_in_front-element s i e)
-      ∙ segment-items e.names_table e.element.mode e.element.items h.mode d
+      ∙ segment-items e.has_table_index e.element.mode e.element.items h.mode d
       ∙ ap (option_map (element_of (mode_without_places e.element.mode))) (items-items e.element.items h.items k)

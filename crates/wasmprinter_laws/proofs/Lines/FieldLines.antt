@@ -284,7 +284,7 @@ pub element_begins : (skeleton : Bool) (s : Scope) → s.folding ≡ None → (i
 unfolding element_pieces
 element_begins skeleton s flat i e =
     field_begins e.place 1 (group_space_stays 1 (codes "elem")
-    (both_stay (declared_stays s row.Elem i) (both_stay (mode_stays s flat e.value.names_table e.value.element.mode) (then_stay refl (shown_items_stay skeleton s flat e.value.element.items)))))
+    (both_stay (declared_stays s row.Elem i) (both_stay (mode_stays s flat e.value.has_table_index e.value.element.mode) (then_stay refl (shown_items_stay skeleton s flat e.value.element.items)))))
 
 pub named_memory_stays : (s : Scope) (n : ℕ) → IsOneLine (named_memory s n)
 named_memory_stays s n = cond_stays (n == 0) nothing_stays (both_stay (line_group_space_stays (codes "memory") (item_stays s row.Memory n)) (alone_stays refl))

@@ -148,7 +148,7 @@ module _ (s : Scope) where
   element_none skeleton i e =
       field_none (Some e.place) 1 (group_space_none 1 (codes "elem")
       (both_none (line_none (declared_stays s row.Elem i))
-      (both_none (mode_none e.value.names_table e.value.element.mode) (then_none tt (shown_items_none skeleton e.value.element.items)))))
+      (both_none (mode_none e.value.has_table_index e.value.element.mode) (then_none tt (shown_items_none skeleton e.value.element.items)))))
 
   data_mode_none : (m : DataMode (Placed Operator)) → HasNoBegin (data_mode_pieces s m)
   unfolding data_mode_pieces

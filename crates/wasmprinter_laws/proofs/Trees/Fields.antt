@@ -245,7 +245,7 @@ module _ (color : Bool) (m : PlacedModule) (s : Scope) (is : s.folding ≡ Some 
   element_has i e h l =
       let parts = all_parts Foldable (offset_list e.value.element.mode) (item_lists e.value.element.items) l in
       subst (λ ns. AreAlike AreNodesOf ns (segment_trees m s (element_lists false e))) (sym (id_silent (s.names.items row.Elem i) (elements.segment_items s false e.value)))
-      (mode_has e.value.names_table e.value.element.mode h.mode parts.0 (elements.items_items s e.value.element.items) (item_lists e.value.element.items)
+      (mode_has e.value.has_table_index e.value.element.mode h.mode parts.0 (elements.items_items s e.value.element.items) (item_lists e.value.element.items)
       (items_have e.value.element.items h.items parts.1))
 
   pub data_has : (i : ℕ) (d : Placed (Data (Placed Operator))) → IsRangedData d.value → AllByRecursion Foldable (data_lists d) →

@@ -46,7 +46,7 @@ shown_items false s items = items_pieces s items
 -- text is a skeleton.
 abbrev pub element_parts : Bool → Scope → ℕ → ElementEntry → List Piece
 element_parts skeleton s i e =
-    item_declaration s row.Elem i ++ (mode_pieces s e.names_table e.element.mode ++ (OneSpace ∷ shown_items skeleton s e.element.items))
+    item_declaration s row.Elem i ++ (mode_pieces s e.has_table_index e.element.mode ++ (OneSpace ∷ shown_items skeleton s e.element.items))
 
 -- The field of the element segment with index i, on a line of its own.
 unfoldable pub element_pieces : Bool → Scope → ℕ → Placed ElementEntry → List Piece

@@ -24,7 +24,7 @@ pub enum Before {
     /// The start of a line.
     Line,
     /// No group is open.
-    Closed,
+    ClosedGroup,
     /// A group of variables without identifiers is open.
     Open,
 }
@@ -49,7 +49,7 @@ fn write_before_group<O: Output>(out: &mut O, before: Before)
 {
     match before {
         Before::Line => {}
-        Before::Closed => write_space(out),
+        Before::ClosedGroup => write_space(out),
         Before::Open => {
             write_close_paren(out);
             write_space(out);
@@ -133,7 +133,7 @@ fn write_variable_as<O: Output>(
         Some(identifier) => {
             write_before_group(out, before);
             write_named_variable(out, identifiers, keyword, identifier, value_type);
-            Before::Closed
+            Before::ClosedGroup
         }
     }
 }
@@ -184,7 +184,7 @@ pub(crate) fn write_params<O: Output>(
         (groups_pieces (names_of_identifiers identifiers.now) (codes "param")
         (variable_groups (parameters_of (names_of_identifiers identifiers.now) owner) 0 (val_types_view types.now))) }
 {
-    let mut before = Before::Closed;
+    let mut before = Before::ClosedGroup;
     for (number, value_type) in (0..u64::from(types.len())).zip(types.iter()) {
         if out.has_failed() {
             return;

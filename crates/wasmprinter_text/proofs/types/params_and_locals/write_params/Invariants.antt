@@ -8,7 +8,7 @@ use Rattle.wasmprinter_text.proofs.types.params_and_locals.write_params.Given as
 
 abbrev pub invariant-loop-number : goal.invariant-loop-number
 invariant-loop-number g l = record {
-  rest : (t : _) → g.O.Output.wrote l.out t (walk_pieces (names_of_identifiers l.fn.identifiers) (codes "param") (parameters_of (names_of_identifiers l.fn.identifiers) l.fn.owner) l.before l.number-iterator.a.start (val_types_view l.number-iterator.b)) → g.O.Output.wrote l.fn.out t (walk_pieces (names_of_identifiers l.fn.identifiers) (codes "param") (parameters_of (names_of_identifiers l.fn.identifiers) l.fn.owner) before.Closed 0 (val_types_view l.fn.types));
+  rest : (t : _) → g.O.Output.wrote l.out t (walk_pieces (names_of_identifiers l.fn.identifiers) (codes "param") (parameters_of (names_of_identifiers l.fn.identifiers) l.fn.owner) l.before l.number-iterator.a.start (val_types_view l.number-iterator.b)) → g.O.Output.wrote l.fn.out t (walk_pieces (names_of_identifiers l.fn.identifiers) (codes "param") (parameters_of (names_of_identifiers l.fn.identifiers) l.fn.owner) before.ClosedGroup 0 (val_types_view l.fn.types));
   count : l.number-iterator.a.start + length l.number-iterator.b ≡ l.number-iterator.a.end;
   next : (goal.iterator-loop-number g).can_next l.number-iterator × (goal.iterator-loop-number g).is_finite l.number-iterator;
 }
