@@ -18,7 +18,8 @@ pub trait Render<X> {
     // The text that this error may have, or `None` for a text that no contract specifies.
     ghost renders: { Self → X → Option (List ℕ) → Type 0 };
 
-    /// Writes the line of an error: `error: `, the text of the error and a line feed.
+    /// Writes the line of an error in one write: `error: `, a text that `renders` allows for the error, and a line
+    /// feed. Returns the result of this write.
     fn write_line<E: Sink>(&self, err: &mut E, error: &X) -> io::Result<()>
         ensures { (text : Option (List ℕ)) × renders self.now error.now text × E.takes err.old (error_line text) result err.new };
 }

@@ -17,11 +17,12 @@ pub trait Sink {
     // after it.
     ghost takes: { Self → Option (List ℕ) → Result (Unit {0}) Error → Self → Type 0 };
 
-    /// Writes a whole text, or returns an error.
+    /// Writes a whole text, or returns an error. `takes` allows this result and the state after it, also for an error.
     fn write_text<D: Display + Drop>(&mut self, text: D) -> io::Result<()>
         ensures { takes self.old (D.output text) result self.new };
 
-    /// Writes all bytes of a text, or returns an error.
+    /// Writes all bytes of a text, or returns an error. `takes` allows this result and the state after it, also for an
+    /// error.
     fn write_bytes(&mut self, text: &[u8]) -> io::Result<()>
         ensures { takes self.old (Some text.now) result self.new };
 }

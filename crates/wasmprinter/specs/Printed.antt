@@ -29,7 +29,7 @@ pub record Printed {P : Type 0} (printer : Change P) (colors : Bool) (o : Option
   pub decoded : Decoded bytes
   -- The printer's answer to the claim of each custom section.
   pub answers : Answers
-  -- It can be folded if folding is on.
+  -- The module can be folded if folding is on.
   pub foldable : IsFoldable o decoded.placed
   -- No `dylink.0` section of it is refused.
   pub accepted : refusal (with_color o colors) answers decoded.placed ≡ None

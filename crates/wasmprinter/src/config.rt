@@ -35,7 +35,7 @@ impl Config {
     ghost use Rattle.wasmprinter_spec.specs.Options.{defaults};
 
     /// Returns the default options: lines without places, all bodies, no synthesized identifiers, flat operators,
-    /// and an indent of two spaces. Allocates nothing.
+    /// and an indent of two spaces.
     pub fn new() -> Config
         ensures { result ≡ defaults }
     {
@@ -46,7 +46,7 @@ impl Config {
 
     /// Sets whether each line after the first begins with its place: a byte offset from the start of the module,
     /// in hexadecimal and in a comment such as `(;@1f    ;)`. A line without a place begins with that many spaces
-    /// instead. Returns `self`; the other options stay as they are. Allocates nothing.
+    /// instead. Returns `self` (`itself`); the other options stay as they are (`options`).
     ///
     /// With a module `IDENTITY` whose only function returns its parameter:
     ///
@@ -65,7 +65,7 @@ impl Config {
     }
 
     /// Sets whether bodies, items of element segments, and bytes of data segments and custom sections are left
-    /// out. Returns `self`; the other options stay as they are. Allocates nothing.
+    /// out. Returns `self` (`itself`); the other options stay as they are (`options`).
     ///
     /// With a module `IDENTITY` whose only function returns its parameter:
     ///
@@ -84,8 +84,8 @@ impl Config {
         self
     }
 
-    /// Sets whether identifiers are synthesized for items without a name, for example `$#func3`. Returns `self`; the
-    /// other options stay as they are. Allocates nothing.
+    /// Sets whether identifiers are synthesized for items without a name, for example `$#func3`. Returns `self`
+    /// (`itself`); the other options stay as they are (`options`).
     ///
     /// With a module `IDENTITY` whose only function returns its parameter:
     ///
@@ -104,8 +104,8 @@ impl Config {
     }
 
     /// Sets whether operators are folded: each operator is printed in parentheses with its operands (section 6.5,
-    /// "Folded Instructions"), in bodies and in constant expressions. Returns `self`; the other options stay as they
-    /// are. Allocates nothing.
+    /// "Folded Instructions"), in bodies and in constant expressions. Returns `self` (`itself`); the other options stay
+    /// as they are (`options`).
     ///
     /// With a module `IDENTITY` whose only function returns its parameter:
     ///
@@ -124,7 +124,7 @@ impl Config {
     }
 
     /// Sets the text of one level of nesting, by default two spaces. A line is indented by at most 50 levels.
-    /// Returns `self`; the other options stay as they are. Allocates nothing.
+    /// Returns `self` (`itself`); the other options stay as they are (`options`).
     ///
     /// The text is printed unchanged. If it has characters other than spaces and tabs, the printed module is not
     /// guaranteed to read back.
@@ -183,11 +183,12 @@ impl Config {
     /// # Errors
     ///
     /// Each error has the cause that is listed here (`refused`); of `Memory`, the contract says only when an allocation
-    /// is possible. The calls that the printer received are as listed too (`left`).
+    /// is possible. [`Error`] says what the place, count or id of each is. `Unreadable` is not returned. The calls that
+    /// the printer received are as listed too (`left`).
     ///
     /// The printer receives no call before these errors:
     ///
-    /// - `Component`: the bytes are marked as a component. This error takes precedence over all others.
+    /// - `Component`: the bytes are marked as a component. This error takes precedence over all others (`component`).
     /// - `Malformed`: the bytes are not in the binary format.
     /// - `TooManyLocals`, `TooManyFunctions`: the module exceeds a limit of this printer.
     /// - `EmptyTableInit`: the initialiser of a table has no operators.

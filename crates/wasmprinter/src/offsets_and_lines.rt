@@ -31,7 +31,7 @@ impl Config {
     ///
     /// # Errors
     ///
-    /// The errors of [`Config::print_to_string`]. `storage` keeps its old text, and gains this after it:
+    /// The errors of [`Config::print_to_string`]. `storage` keeps its old text, and gains this after it (`left`):
     ///
     /// - `Memory`: possibly a prefix of the text of the module.
     /// - `DylinkSubsection`: the text before that `dylink.0` section.
@@ -66,7 +66,7 @@ impl Config {
     /// The place of a line is a byte offset from the start of the module, or `None` if the line shows nothing of
     /// the module. Each line ends with its line feed. The old text of `storage` stays before the first line and is
     /// part of no line. The lines, joined, are the text that [`Config::print_to_string`] returns. The lines of
-    /// functions are as in [`Config::print_with_line_starts`]. Iterating allocates nothing.
+    /// functions are as in [`Config::print_with_line_starts`].
     ///
     /// With a module `IDENTITY` whose only function returns its parameter:
     ///

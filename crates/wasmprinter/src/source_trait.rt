@@ -15,7 +15,8 @@ pub trait Source {
     // or may fail if `content` is `None`.
     ghost may_read: { Self → List ℕ → Option (List ℕ) → Type 0 };
 
-    /// Returns the bytes of a file.
+    /// Returns the bytes of the file at this path. `may_read` allows these bytes for the path or, if an error is
+    /// returned, `None`.
     fn read(&self, path: Path<'_>) -> io::Result<Vec<u8>>
         ensures { MatchResult result
             (λ bytes. may_read self.now (path_bytes path.entry) (Some bytes.items))

@@ -12,7 +12,8 @@ use Rattle.wasmprinter_c.specs.declared.WasmprinterResult.{WasmprinterResult}
 abbrev pub outcome_with : ℕ → WasmprinterResult → Outcome
 outcome_with status stored = record { status = status; length = stored.length; count = stored.count; detail = stored.detail }
 
--- The call changed neither the buffer nor the table. It stored 0 as the lengths, and this detail.
+-- The call changed neither the buffer nor the table. It stored 0 as the length of the text and as the number of
+-- events, and this detail.
 pub record DoesNothing (b : Buffers) (detail : ℕ) (stored : WasmprinterResult) : Type 0 where
   pub same_buffer : b.new ≡ b.old
   pub same_table : b.after ≡ b.before

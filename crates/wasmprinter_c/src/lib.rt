@@ -235,17 +235,21 @@ fn print_by(
 
 /// Prints the text of a module in the binary format over `out`: writes the first bytes of the text, as many as fit.
 /// Writes the starts of its lines or all its events over `table`: the first ones, as many as fit. Returns 0 or the
-/// number of an error.
+/// number of an error (`outcome`).
 ///
 /// The bits of `flags` choose options: bit 0 offsets, bit 1 the skeleton, bit 2 synthesized identifiers, bit 3 folded
-/// operators, bit 4 a table of all events: of styles and custom sections too. The text has at most `limit` bytes:
-/// printing stops before it gets longer. Stores in `extent` the length of the whole text and the number of its lines
-/// or events, or 0 after an error, and the detail of an error, or 0 if there is none. The text was truncated if it is
-/// longer than `out`.
+/// operators, bit 4 a table of all events: of styles and custom sections too. `indent` is the text of one level of
+/// nesting. The text has at most `limit` bytes: printing stops before it gets longer. Stores in `extent` the length of
+/// the whole text in bytes and the number of its lines or events, or 0 after an error, and the detail of an error, or 0
+/// if there is none. The text was truncated if it is longer than `out`. The contract says nothing of the table and the
+/// number of all events if there are 2^64 or more.
 ///
 /// # Errors
 ///
-/// - 13: the flags have another bit. The detail has these bits. This error takes precedence over all others.
+/// No error other than these is returned:
+///
+/// - 13: the flags have another bit (`unknown`). The detail has these bits, and `table` is unchanged (`nothing`). This
+///   error takes precedence over all others.
 /// - 2: the bytes are marked as a component. This error takes precedence over those that follow.
 /// - 12: the indent is not UTF-8. This error takes precedence over those that follow.
 /// - 1: the bytes are not in the binary format. The detail is a place, as `include/wasmprinter.h` describes it.
@@ -261,7 +265,7 @@ fn print_by(
 /// - 11: an allocation failed.
 ///
 /// After the errors 8, 10 and, if operators are folded, 11, `out` may hold a prefix of the text. After any other error
-/// it is unchanged. After an error the entries of `table` are not specified.
+/// it is unchanged. After any error except 13 the entries of `table` are not specified.
 #[unsafe(no_mangle)]
 pub extern "C" fn wasmprinter_raw_print(
     alloc: Global,
@@ -306,9 +310,9 @@ fn write_description(copier: &mut Copier<'_>, status: u32, detail: u64)
     let _ = describe(copier, status, detail);
 }
 
-/// Writes the description of a status with its detail over `out`: the first bytes, as many as fit. Returns the
-/// length of the whole description in bytes. The description of a status greater than 13 is `unknown status`.
-/// Allocates nothing.
+/// Writes the description of a status with its detail over `out`: the first bytes, as many as fit. The other bytes of
+/// `out` are unchanged (`copied`). Returns the length of the whole description in bytes (`whole`), which is at most 200
+/// (`short`). The description of a status greater than 13 is `unknown status`.
 #[unsafe(no_mangle)]
 pub extern "C" fn wasmprinter_raw_error_text(status: u32, detail: u64, out: &mut [u8]) -> usize
     ensures whole { result ≡ length (message status detail) }
@@ -321,7 +325,7 @@ pub extern "C" fn wasmprinter_raw_error_text(status: u32, detail: u64, out: &mut
 }
 
 /// Returns the version of the library: the major number times 1,000,000, plus the minor number times 1,000, plus
-/// the patch number. Allocates nothing.
+/// the patch number.
 #[unsafe(no_mangle)]
 pub extern "C" fn wasmprinter_version() -> u32
     ensures { result ≡ library_version }
@@ -329,7 +333,7 @@ pub extern "C" fn wasmprinter_version() -> u32
     VERSION
 }
 
-/// Returns the number N of the release 0.263.0-rN. Allocates nothing.
+/// Returns the number N of the release 0.263.0-rN.
 #[unsafe(no_mangle)]
 pub extern "C" fn wasmprinter_revision() -> u32
     ensures { result ≡ library_revision }

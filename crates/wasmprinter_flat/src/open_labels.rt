@@ -95,12 +95,12 @@ fn unnamed_identifier<'n>(synthesizes: bool, depth: u64) -> Option<Identifier<'n
 }
 
 impl<'n, 'a> OpenLabels<'n, 'a> {
-    /// Creates the state at the start of an expression of function 0, with room for all labels that have names. No
-    /// block is open, and none was opened.
+    /// Creates the state at the start of an expression of function 0, with these identifiers. No block is open, and
+    /// none was opened (`start`).
     ///
     /// # Errors
     ///
-    /// Returns an error if an allocation fails. If no label has a name, nothing is allocated.
+    /// If an allocation fails. If no label has a name, there is no error (`succeeds`).
     pub fn new(alloc: Global, identifiers: Identifiers<'n, 'a>) -> Result<Self, AllocError>
         ensures start { IfOk result (λ labels. labels ≡ at_start identifiers.entry 0) }
         ensures succeeds { ((f n : ℕ) → name_at identifiers.entry.names.now label_subsection f n ≡ None) → IsOk result }
@@ -118,7 +118,8 @@ impl<'n, 'a> OpenLabels<'n, 'a> {
         })
     }
 
-    /// Returns the identifiers that were passed to [`OpenLabels::new`].
+    /// Returns the identifiers that were passed to [`OpenLabels::new`]: the names (`item_names`), and whether
+    /// identifiers are synthesized (`synthesizes`).
     pub fn identifiers(&self) -> Identifiers<'n, 'a>
         ensures item_names { result.names.now ≡ self.now.item_names }
         ensures synthesizes { result.synthesizes ≡ self.now.synthesizes }
@@ -184,8 +185,8 @@ impl<'n, 'a> OpenLabels<'n, 'a> {
     }
 
     /// Moves past an operator with the role. If it opens a block, that block is counted and becomes the innermost
-    /// one. If it ends a block, the innermost one is closed. The identifiers stay. Fewer than 2^64 - 1 blocks must have
-    /// been opened.
+    /// one. If it ends a block, the innermost one, if any, is closed. The identifiers stay. Fewer than 2^64 - 1 blocks
+    /// must have been opened.
     #[inline]
     pub fn advance(&mut self, role: Role)
         requires { self.old.count + 1 < 2 ^ 64 }

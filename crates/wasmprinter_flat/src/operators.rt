@@ -56,8 +56,8 @@ fn level(role: Role, depth: u64) -> u64
     }
 }
 
-/// Starts an operator. Over lines, begins a line at `place`, indented by `nesting + depth` levels. In one line,
-/// writes a space unless the operator is the first of its list.
+/// Starts an operator. Over lines, begins a line with the place `place`, a byte offset from the start of the module,
+/// indented by `nesting + depth` levels. In one line, writes a space unless the operator is the first of its list.
 pub fn start_operator<O: Output>(
     out: &mut O,
     form: Form,
@@ -133,9 +133,9 @@ fn write_next_hint<O: Output, S: Signatures>(
 }
 
 /// Writes the operators of an expression, each after its hint if it has one. A hint is on a line of its own. A hint
-/// whose offset is that of no operator is not written, and neither are the hints after it. `labels` is first reset to
-/// the start of `setting.function`, so its earlier use does not matter. Its identifiers are those passed to
-/// `OpenLabels::new`, and they stay.
+/// whose offset is that of no operator is not written, and neither are the hints after it (`pieces`). `labels` is first
+/// reset to the start of `setting.function`, so its earlier use does not matter. Its identifiers, which were passed to
+/// `OpenLabels::new`, stay (`item_names`, `synthesizes`).
 pub fn write_operators<O: Output, S: Signatures>(
     out: &mut O,
     setting: &Setting<'_, S>,

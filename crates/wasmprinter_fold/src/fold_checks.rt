@@ -58,13 +58,13 @@ fn check_printed_hints(options: &PrintOptions, module: &Module<'_>) -> Result<()
     check_hints(module)
 }
 
-/// Checks, before anything is printed, that everything that the options print of a module can be folded. On `Ok`, the
-/// printed lists of operators have none of the operators and hints below. The result does not depend on whether the
-/// options ask for folding. Allocates no memory.
+/// Checks that everything that the options print of a module can be folded. On `Ok`, the printed lists of operators
+/// have none of the operators (`legacy`) and hints (`hints`) below. The result does not depend on whether the options
+/// ask for folding.
 ///
 /// # Errors
 ///
-/// No error other than these is returned:
+/// No error other than these is returned (`refused`):
 ///
 /// - `FoldLegacy` with the place of the first `try`, `catch`, `catch_all` or `delegate` in the lists of operators that
 ///   are printed, in the order of the bytes.

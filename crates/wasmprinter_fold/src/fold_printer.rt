@@ -35,12 +35,12 @@ impl<'m, 'a> Model for Folder<'m, 'a> {
 }
 
 impl<'m, 'a> Folder<'m, 'a> {
-    /// Gathers the types of the items that the module's operators refer to. `color` says whether texts of folded
-    /// operators contain ANSI escape sequences. Contracts see the result as this Boolean and the module.
+    /// Creates a folder for the operators of the module. `color` says whether texts of folded operators contain ANSI
+    /// escape sequences. Contracts see the folder as this Boolean and the module (`ok`).
     ///
     /// # Errors
     ///
-    /// Returns an error if an allocation fails. Memory is needed only if a function or a tag is imported.
+    /// If an allocation fails. There is an error only if the module imports a function or a tag (`memory`).
     pub fn new(alloc: Global, module: &'m Module<'a>, color: bool) -> Result<Self, AllocError>
         ensures ok { IfOk result (λ f. f ≡ record { color = color; operators_of = «module».now }) }
         ensures memory { OnErr result (ImportsFunctionOrTag «module».now) }
@@ -61,8 +61,8 @@ impl<'m, 'a> Folder<'m, 'a> {
     /// The options of `out` must ask for folding.
     ///
     /// Writes nothing if the list has a legacy operator (`try`, `catch`, `catch_all` or `delegate`), which cannot be
-    /// folded. If an allocation fails, records in `out` that memory ran out. Afterwards `self` means the same, and
-    /// `labels` has the same identifiers.
+    /// folded. If an allocation fails, records in `out` that memory ran out (`writes`). Afterwards `self` means the
+    /// same (`folder`), and `labels` has the same identifiers (`item_names`, `synthesizes`).
     pub fn write<O: FoldingOutput, S: Signatures>(
         &mut self,
         out: &mut O,

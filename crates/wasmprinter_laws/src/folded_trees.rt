@@ -70,10 +70,12 @@ pub fn folded_groups_are_nodes()
 
 /// The groups of the text of a module whose operators are folded are the nodes of its trees, field by field: a
 /// function has those of its body, a global and a table those of their initialisers, and a segment those of its
-/// offset and of its items. The items of each group are those of [`folded_groups_are_nodes`]. The module is foldable,
-/// as in [`printed_text_reads_back`](crate::printed_text_reads_back). The text is not a skeleton and has no colors.
-/// Its indent consists of spaces and tabs. No `dylink.0` section is refused. The printer may claim sections, and
-/// indices need not be declared.
+/// offset and of its items. The items of each group are those of [`folded_groups_are_nodes`].
+///
+/// The premises: some bytes encode the module, and it is foldable, as in
+/// [`printed_text_reads_back`](crate::printed_text_reads_back). The text is not a skeleton and has no colors. Its
+/// indent consists of spaces and tabs. No `dylink.0` section is refused. The printer may claim sections, and indices
+/// need not be declared.
 pub fn folded_modules_have_trees()
     ensures { FoldedModulesHaveTrees }
 {}

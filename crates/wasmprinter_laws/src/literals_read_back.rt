@@ -13,8 +13,8 @@ pub fn quoted_bytes_read()
     ensures { QuotedBytesRead }
 {}
 
-/// The text of each bit pattern of a float is one word that reads as these bits (section 6.3 of the standard,
-/// "Floating-Point").
+/// The text of each bit pattern of a float of 32 or 64 bits is one word that reads as exactly these bits, also for
+/// negative zero and for each NaN (section 6.3 of the standard, "Floating-Point").
 pub fn float_text_reads()
     ensures { FloatTextReads }
 {}

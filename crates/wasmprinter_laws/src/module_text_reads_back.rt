@@ -39,11 +39,13 @@ pub fn places_and_indent_keep_tokens()
     ensures { TokensStay }
 {}
 
-/// The branch hints of a module are those of its text, each once, directly before its operator or the group of its
-/// operator. The module's hints are valid: the functions of its last hint section are defined and increase, and so do
-/// the offsets in a function, each of which is that of an operator before the last `end`. The text is not a skeleton
-/// and has no colors. Its indent consists of spaces and tabs. If operators are folded, the module is foldable, as in
-/// [`printed_text_reads_back`]. No `dylink.0` section is refused. The printer may claim sections.
+/// The branch hints of a module that some bytes encode are those of its text, each once, directly before its operator
+/// or the group of its operator.
+///
+/// The premises: the module's hints are valid, that is, the functions of its last hint section are defined and
+/// increase, and so do the offsets in a function, each of which is that of an operator before the last `end`. The text
+/// is not a skeleton and has no colors. Its indent consists of spaces and tabs. If operators are folded, the module is
+/// foldable, as in [`printed_text_reads_back`]. No `dylink.0` section is refused. The printer may claim sections.
 pub fn hints_stay()
     ensures { HintsStay }
 {}

@@ -34,7 +34,8 @@ pub trait Field {
     fn line_place(&self) -> u64
         ensures { result ≡ line_place self.now };
 
-    /// Writes the contents of the field's group. `number` is the field's index in its index space.
+    /// Writes the pieces inside the field's group (`pieces`). `number` is the field's index in its index space. `scope`
+    /// is working memory and means the same afterwards (`scope`).
     fn write_parts<O: FoldingOutput>(&self, out: &mut O, scope: &mut Scope<'_, '_>, number: u64)
         ensures pieces { O.wrote out.old out.new
             (parts O.chosen (scope_view O.chosen scope.old) number self.now) }
@@ -59,8 +60,9 @@ pub(crate) fn write_field<O: FoldingOutput, F: Field>(
     close_group(out, FIELD_NESTING, outer_begun);
 }
 
-/// Writes the fields of one kind in order, each as a group on a line of its own. The first of them has the index
-/// `first`. `scope` is working memory and means the same afterwards.
+/// Writes the fields of one kind in order, each as a group on a line of its own (`pieces`). The first of them has the
+/// index `first`, and `first + fields.len()` must be below 2^64. `scope` is working memory and means the same
+/// afterwards (`scope`).
 pub fn write_each<O: FoldingOutput, F: Field>(
     out: &mut O,
     scope: &mut Scope<'_, '_>,

@@ -25,7 +25,8 @@ pub fn write_function_header<O: Output>(
     write_type_use_in(out, scope, Some(number), type_index);
 }
 
-/// Writes the header of a tag: its declaration, a space and its type. The parameters have no identifiers.
+/// Writes the header of the tag with the index `number`: its declaration, a space and its type. The parameters have no
+/// identifiers.
 #[tactic(auto, unfolding(wasmprinter_spec::specs::Layout::Functions::header_pieces))]
 pub fn write_tag_header<O: Output>(out: &mut O, scope: &Scope<'_, '_>, number: u64, type_index: u32)
     ensures { O.wrote out.old out.new

@@ -144,8 +144,8 @@ impl<'a> Field for Import<'a> {
     }
 }
 
-/// Writes the imports, each on a line of its own. Each kind has its own indices, from 0. `scope` is working memory and
-/// means the same afterwards.
+/// Writes the imports, each on a line of its own. Each kind has its own indices, from 0. There must be fewer than 2^32
+/// imports. `scope` is working memory and means the same afterwards.
 pub fn write_imports<O: FoldingOutput>(
     out: &mut O,
     scope: &mut Scope<'_, '_>,

@@ -35,12 +35,12 @@ impl<'m, 'a> Model for FunctionAndTagTypes<'m, 'a> {
 }
 
 impl<'m, 'a> FunctionAndTagTypes<'m, 'a> {
-    /// Gathers the type indices of imported functions and tags, in time proportional to the number of imports. Each
-    /// look-up then takes constant time. Contracts see the result as the module.
+    /// Gathers the type indices of imported functions and tags, so that each look-up takes constant time (which is not
+    /// part of the contract). Contracts see the result as the module (`ok`).
     ///
     /// # Errors
     ///
-    /// Returns an error if an allocation fails. Memory is needed only if a function or a tag is imported.
+    /// If an allocation fails. There is an error only if the module imports a function or a tag (`memory`).
     pub fn new(alloc: Global, module: &'m Module<'a>) -> Result<Self, AllocError>
         ensures ok { IfOk result (λ c. c ≡ «module».now) }
         ensures memory { OnErr result (ImportsFunctionOrTag «module».now) }

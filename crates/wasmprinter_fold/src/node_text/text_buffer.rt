@@ -141,8 +141,9 @@ impl Texts {
     }
 
     /// Writes the text of an operator's node, its word and immediates, and returns its head. `labels` are those that
-    /// are open before the operator. The head's text is in the buffer (`inside`), and with its place and hint it is
-    /// that of the operator (`shows`). The text is appended: older texts stay, also after an error (`grows`).
+    /// are open before the operator, and must be fewer than 2^64 - 1. The head's text is in the buffer (`inside`), and
+    /// with its place and hint it is that of the operator (`shows`). The text is appended: older texts stay, also after
+    /// an error (`grows`).
     ///
     /// # Errors
     ///

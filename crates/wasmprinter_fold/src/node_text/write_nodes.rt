@@ -133,7 +133,9 @@ fn write_front<O: Output>(out: &mut O, form: Form, nesting: u64, text: &str, tas
 /// Writes nodes in order at nesting depth `nesting`, each as a group around those that it holds, with their texts from
 /// `text`.
 ///
-/// If an allocation fails, records in `out` that memory ran out.
+/// Each node must follow those that it holds (`whole`), and its text must be a part of `text`, between whole characters
+/// (`texts`). The options of `out` must ask for folding (`folds`). If an allocation fails, records in `out` that memory
+/// ran out.
 pub fn write_nodes<O: FoldingOutput>(
     alloc: Global,
     out: &mut O,
