@@ -14,7 +14,7 @@ outcome_with status stored = record { status = status; length = stored.length; c
 
 -- The call changed neither the buffer nor the table. It stored 0 as the length of the text and as the number of
 -- events, and this detail.
-pub record DoesNothing (b : Buffers) (detail : ℕ) (stored : WasmprinterResult) : Type 0 where
+pub record StoresOnlyDetail (b : Buffers) (detail : ℕ) (stored : WasmprinterResult) : Type 0 where
   pub same_buffer : b.new ≡ b.old
   pub same_table : b.after ≡ b.before
   pub uncounted : stored.length ≡ 0

@@ -11,7 +11,7 @@ ghost use Rattle.wasmprinter_c.specs.Over.{over};
 ghost use Rattle.wasmprinter_c.specs.Messages.{message};
 ghost use Rattle.wasmprinter_c.specs.Printing.{options_of, request, request_of, unknown_bits, HasUnknownBit, buffers, HasEventsOver};
 ghost use Rattle.wasmprinter_c.specs.Refused.{number_of, detail_in, IsCopied, IsBufferRefusal, LeavesBuffer};
-ghost use Rattle.wasmprinter_c.specs.Outcomes.{IsOutcome, outcome_with, DoesNothing};
+ghost use Rattle.wasmprinter_c.specs.Outcomes.{IsOutcome, outcome_with, StoresOnlyDetail};
 ghost use Rattle.wasmprinter_c.specs.Statuses.{option_status, library_version, library_revision};
 
 mod buffer_and_event_printer;
@@ -278,7 +278,7 @@ pub extern "C" fn wasmprinter_raw_print(
     extent: &mut WasmprinterResult,
 ) -> u32
     ensures unknown { result ≡ option_status ↔ HasUnknownBit flags }
-    ensures nothing { HasUnknownBit flags → DoesNothing (buffers out.old out.new table.old table.new) (unknown_bits flags) extent.new }
+    ensures nothing { HasUnknownBit flags → StoresOnlyDetail (buffers out.old out.new table.old table.new) (unknown_bits flags) extent.new }
     ensures outcome { ¬ HasUnknownBit flags →
         IsOutcome (request_of flags indent.now limit) wasm.now (buffers out.old out.new table.old table.new) (outcome_with result extent.new) }
 {

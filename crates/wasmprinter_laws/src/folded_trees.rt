@@ -5,7 +5,7 @@ ghost use Rattle.wasmprinter_spec.specs.Folding.Arities.{Signatures};
 ghost use Rattle.wasmprinter_spec.specs.Folding.Code.{TreesRepresentLists, TreesAreUnique, NestedOperatorsHaveTrees, TreesAreNested};
 ghost use Rattle.wasmprinter_spec.specs.Folding.Tree.{OperandRule};
 ghost use Rattle.wasmprinter_spec.specs.Folding.Unfolding.{UnfoldingRule};
-ghost use Rattle.wasmprinter_spec.specs.Layout.Folded.{FoldedRule, FoldingRule};
+ghost use Rattle.wasmprinter_spec.specs.Layout.Folded.{NestedListsAreFolded, FoldedListsAreNested};
 ghost use Rattle.wasmprinter_spec.specs.Layout.Operators.{Setting};
 ghost use Rattle.wasmprinter_laws.specs.AnyFolding.{FoldsByOwnArities};
 ghost use Rattle.wasmprinter_laws.specs.NodeLaws.{FoldedGroupsAreNodes};
@@ -44,8 +44,8 @@ pub fn folding_loses_nothing()
 /// `delegate` (`folded`), and only then (`only`). This holds for any options, names, hints, and types of the items that
 /// the operators name.
 pub fn nested_operators_are_folded()
-    ensures folded { (s : Setting) (signatures : Signatures) → FoldedRule s signatures }
-    ensures only { (s : Setting) (signatures : Signatures) → FoldingRule s signatures }
+    ensures folded { (s : Setting) (signatures : Signatures) → NestedListsAreFolded s signatures }
+    ensures only { (s : Setting) (signatures : Signatures) → FoldedListsAreNested s signatures }
 {}
 
 /// If the options ask for folded operators, the layout of any module is the one that folds them by the arities of the

@@ -9,7 +9,7 @@ use Rattle.wasmprinter_spec.specs.Instructions.{role_at, roles}
 use Rattle.wasmprinter_spec.specs.Labels as labels
 use Rattle.wasmprinter_spec.specs.Customs.Hints.{Hint}
 use Rattle.wasmprinter_spec.specs.Layout.Operators.{Setting, before_word, level, operator_pieces}
-use Rattle.wasmprinter_spec.specs.Layout.Folded.{item, items, node_pieces, folded_pieces, FoldedRule, FoldingRule}
+use Rattle.wasmprinter_spec.specs.Layout.Folded.{item, items, node_pieces, folded_pieces, NestedListsAreFolded, FoldedListsAreNested}
 use Rattle.wasmprinter_spec.specs.Folding.Tree.{tree}
 use Rattle.wasmprinter_spec.specs.Folding.Arities.{Signatures}
 use Rattle.wasmprinter_spec.specs.Folding.Code.{NestedCode, role, nested_code_of, AreWithoutTry}
@@ -35,7 +35,7 @@ module _ (s : Setting) (t : Signatures) where
   operator_pieces-item hint first own xs ls o = refl
 
   -- Every list that is well nested and without `try`, `catch`, `catch_all` and `delegate` can be folded.
-  pub folded_pieces-nested : FoldedRule s t
+  pub folded_pieces-nested : NestedListsAreFolded s t
   unfolding folded_pieces
   folded_pieces-nested o color hs os n h =
       let e : map role (items s t hs 0 [] [] os) ≡ roles os = roles-items os hs 0 [] [] in
@@ -44,7 +44,7 @@ module _ (s : Setting) (t : Signatures) where
       (node_pieces o color s.form true s.nesting (tree c.0), rw (c.1) refl)
 
   -- No other list can be folded.
-  pub folded_pieces-nests : FoldingRule s t
+  pub folded_pieces-nests : FoldedListsAreNested s t
   unfolding folded_pieces
   folded_pieces-nests o color hs os ps e =
       let c : (code : NestedCode) × (nested_code_of (items s t hs 0 [] [] os) ≡ Some code) = some_tree (nested_code_of (items s t hs 0 [] [] os)) e in

@@ -131,13 +131,13 @@ folded_list f own s hs os = if_folded (folded_pieces defaults f.color s (f.signa
 -- ---- Laws
 
 -- A list is folded if it is well nested and has none of `try`, `catch`, `catch_all` and `delegate`.
-abbrev pub FoldedRule : Setting → Signatures → Type 0
-FoldedRule s signatures =
+abbrev pub NestedListsAreFolded : Setting → Signatures → Type 0
+NestedListsAreFolded s signatures =
     (o : Options) (color : Bool) (hs : List (Placed Hint)) (os : List (Placed Operator))
     → Nests Sequence (roles os) → AreWithoutTry (roles os) → (ps : List Piece) × (folded_pieces o color s signatures hs os ≡ Some ps)
 
 -- A list that is folded is well nested and has none of `try`, `catch`, `catch_all` and `delegate`.
-abbrev pub FoldingRule : Setting → Signatures → Type 0
-FoldingRule s signatures =
+abbrev pub FoldedListsAreNested : Setting → Signatures → Type 0
+FoldedListsAreNested s signatures =
     (o : Options) (color : Bool) (hs : List (Placed Hint)) (os : List (Placed Operator)) (ps : List Piece)
     → folded_pieces o color s signatures hs os ≡ Some ps → Nests Sequence (roles os) × AreWithoutTry (roles os)
