@@ -23,7 +23,7 @@ const SIGN: u8 = 0x40;
 
 /// The remaining bytes, and the place of the first of them.
 ///
-/// After a failed read, the position of the cursor is unspecified, but not after the end.
+/// A read never moves the end. After a failed read, the position is unspecified: between the old position and the end.
 #[derive(Drop)]
 pub struct Cursor<'a> {
     place: u64,
@@ -145,7 +145,7 @@ impl<'a> Cursor<'a> {
         }
     }
 
-    /// Returns the next byte without advancing.
+    /// Returns the next byte without advancing, or `None` if no byte remains.
     pub fn peek(&self) -> Option<u8>
         ensures { result ≡ slice_get self.now.bytes 0 }
     {
@@ -179,8 +179,8 @@ impl<'a> Cursor<'a> {
         }
     }
 
-    /// Reads `len` bytes. On `Ok`, the result and the new place are those that the grammar gives. After an
-    /// error, the cursor may have advanced.
+    /// Reads the next `len` bytes. On `Ok`, the cursor is then after them. After an error, the cursor may have
+    /// advanced.
     ///
     /// # Errors
     ///
@@ -198,8 +198,8 @@ impl<'a> Cursor<'a> {
         Ok(bytes)
     }
 
-    /// Returns a cursor over the next `len` bytes only, at the same place, and advances past them. After an error, the
-    /// cursor may have advanced.
+    /// Returns a cursor over the next `len` bytes only, at the same place (`place`), and advances past them. After an
+    /// error, the cursor may have advanced.
     ///
     /// # Errors
     ///
@@ -285,7 +285,7 @@ impl<'a> Cursor<'a> {
         }
     }
 
-    /// Reads an unsigned 32-bit number. On `Ok`, the result and the new place are those that the grammar gives.
+    /// Reads an unsigned 32-bit number in LEB128. On `Ok`, the cursor is then after its last byte.
     /// After an error, the cursor may have advanced.
     ///
     /// # Errors
@@ -303,7 +303,7 @@ impl<'a> Cursor<'a> {
         Ok(number as u32)
     }
 
-    /// Reads an unsigned 64-bit number. On `Ok`, the result and the new place are those that the grammar gives.
+    /// Reads an unsigned 64-bit number in LEB128. On `Ok`, the cursor is then after its last byte.
     /// After an error, the cursor may have advanced.
     ///
     /// # Errors
@@ -318,7 +318,7 @@ impl<'a> Cursor<'a> {
         self.unsigned(u64::BITS)
     }
 
-    /// Reads a signed 32-bit number. On `Ok`, the result and the new place are those that the grammar gives.
+    /// Reads a signed 32-bit number in LEB128. On `Ok`, the cursor is then after its last byte.
     /// After an error, the cursor may have advanced.
     ///
     /// # Errors
@@ -334,8 +334,8 @@ impl<'a> Cursor<'a> {
         Ok(number as i32)
     }
 
-    /// Reads a signed 33-bit number. On `Ok`, the result and the new place are those that the grammar gives.
-    /// After an error, the cursor may have advanced.
+    /// Reads a signed 33-bit number in LEB128: at least -2^32 (`above`) and below 2^32 (`below`). On `Ok`, the cursor
+    /// is then after its last byte. After an error, the cursor may have advanced.
     ///
     /// # Errors
     ///
@@ -348,7 +348,7 @@ impl<'a> Cursor<'a> {
         self.signed(i32::BITS + 1)
     }
 
-    /// Reads a signed 64-bit number. On `Ok`, the result and the new place are those that the grammar gives.
+    /// Reads a signed 64-bit number in LEB128. On `Ok`, the cursor is then after its last byte.
     /// After an error, the cursor may have advanced.
     ///
     /// # Errors
@@ -360,8 +360,8 @@ impl<'a> Cursor<'a> {
         self.signed(i64::BITS)
     }
 
-    /// Reads a name: a length, and that many bytes of UTF-8. On `Ok`, the result and the new place are those
-    /// that the grammar gives. After an error, the cursor may have advanced.
+    /// Reads a name: a length in LEB128, and that many bytes of UTF-8, which are the result. On `Ok`, the cursor is
+    /// then after them. After an error, the cursor may have advanced.
     ///
     /// # Errors
     ///

@@ -15,7 +15,13 @@ pub trait Decode: Drop {
     /// The grammar's reader for the value.
     ghost parse: { Input → Option (Self × Input) };
 
-    /// Reads the value at the cursor.
+    /// Reads the value at the cursor. On `Ok`, the cursor is then after it. After an error, the cursor may have
+    /// advanced.
+    ///
+    /// # Errors
+    ///
+    /// `Malformed` if the bytes do not encode a value. The contract only bounds its place, from the cursor's before the
+    /// call to the end of the bytes.
     fn read(cursor: &mut Cursor) -> Result<Self, Malformed>
         ensures { Decodes (λ x. x) parse cursor.old result cursor.new };
 }
@@ -38,19 +44,26 @@ pub trait DecodeIn<'a>: Drop {
     /// The grammar's reader for the value.
     ghost parse: { Input → Option (Self × Input) };
 
-    /// Reads the value at the cursor.
+    /// Reads the value at the cursor. On `Ok`, the cursor is then after it. After an error, the cursor may have
+    /// advanced.
+    ///
+    /// # Errors
+    ///
+    /// `Malformed` if the bytes do not encode a value. The contract only bounds its place, from the cursor's before the
+    /// call to the end of the bytes.
     fn read(cursor: &mut Cursor<'a>) -> Result<Self, Malformed>
         ensures { Decodes (λ x. x) parse cursor.old result cursor.new };
 }
 
-/// Reads a count and that many values, and returns the values in memory. On `Ok`, the result and the new place
-/// are those that the grammar gives. After an error, the cursor may have advanced.
+/// Reads a count and that many values, and returns the values in memory. On `Ok`, the cursor is then after them. After
+/// an error, the cursor may have advanced.
 ///
 /// # Errors
 ///
 /// - `Malformed` if the bytes do not encode the count or one of the values, with a place
 ///   as [`Error::Malformed`](crate::Error::Malformed) describes it.
-/// - `Memory` if an allocation fails. Nothing is allocated before a first value is read. No other error is returned.
+/// - `Memory` if an allocation fails, which happens only if the bytes begin with a count above zero and a first value
+///   (`BeginsList`). No other error is returned.
 pub fn read_list<'a, T: DecodeIn<'a>>(
     alloc: Global,
     cursor: &mut Cursor<'a>,
@@ -76,21 +89,28 @@ pub trait GrownIn<'a>: Drop {
     /// The condition on a position under which reading the value from there may allocate.
     ghost grows: { Input → Type 0 };
 
-    /// Reads the value at the cursor.
+    /// Reads the value at the cursor. On `Ok`, the cursor is then after it. After an error, the cursor may have
+    /// advanced.
+    ///
+    /// # Errors
+    ///
+    /// - `Malformed` if the bytes do not encode a value. The contract only bounds its place, from the cursor's before
+    ///   the call to the end of the bytes.
+    /// - `Memory` if an allocation fails, which happens only if `grows` holds for the cursor before the call. No other
+    ///   error is returned.
     fn read(alloc: Global, cursor: &mut Cursor<'a>) -> Result<Self, Error>
         ensures { Takes (λ x. x) (reader parse grows) cursor.old result cursor.new };
 }
 
-/// Reads a count and that many values for which reading may allocate, and returns the values in memory. On
-/// `Ok`, the result and the new place are those that the grammar gives. After an error, the cursor may have
-/// advanced.
+/// Reads a count and that many values for which reading may allocate, and returns the values in memory. On `Ok`, the
+/// cursor is then after them. After an error, the cursor may have advanced.
 ///
 /// # Errors
 ///
 /// - `Malformed` if the bytes do not encode the count or one of the values, with a place
 ///   as [`Error::Malformed`](crate::Error::Malformed) describes it.
-/// - `Memory` if an allocation fails, for the list or for a value. Nothing is allocated if the count is 0. No other
-///   error is returned.
+/// - `Memory` if an allocation fails, for the list or for a value, which happens only if the bytes begin with a count
+///   above zero (`CountsItems`). No other error is returned.
 pub fn read_grown_list<'a, T: GrownIn<'a>>(
     alloc: Global,
     cursor: &mut Cursor<'a>,

@@ -1,5 +1,5 @@
-//! Lists whose encoding was checked, and whose values are read again from the bytes when they are requested (section 5.1
-//! of the WebAssembly Core Specification, "Lists").
+//! Lists whose encoding was checked, and whose values are read again from the bytes when they are requested (section
+//! 5.1 of the WebAssembly Core Specification, "Lists").
 ghost use Rattle.std.specs.Prelude.{◌≡◌, [], length};
 ghost use Rattle.wasmprinter_bytes.specs.Reads.{Decodes};
 ghost use Rattle.wasmprinter_bytes.specs.Lists.{vec_at};
@@ -30,7 +30,7 @@ impl<'a, T: Decode> Model for Items<'a, T> {
     ghost invariant = { λ t. HasItems T.parse t.left t.cursor };
 }
 
-/// Returns an empty list.
+/// Returns an empty list, whatever the position and the bytes of `cursor` are.
 pub fn no_items<'a, T: Decode>(cursor: &Cursor<'a>) -> Items<'a, T>
     ensures { result ≡ [] }
 {
@@ -41,8 +41,8 @@ pub fn no_items<'a, T: Decode>(cursor: &Cursor<'a>) -> Items<'a, T>
     }
 }
 
-/// Reads a list: a count, and that many values. On `Ok`, the result and the new place are those that the
-/// grammar gives. After an error, the cursor may have advanced.
+/// Reads a list: a count, and that many values. On `Ok`, the result has all of them, and the cursor is then after them.
+/// After an error, the cursor may have advanced.
 ///
 /// # Errors
 ///

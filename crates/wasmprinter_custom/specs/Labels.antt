@@ -24,11 +24,11 @@ abbrev pub label_at : List NamedLabel → ℕ → ℕ → Option Named
 label_at [] f n = None
 label_at (x ∷ xs) f n = if x.function == f && x.number == n then Some x.name else label_at xs f n
 
--- The order of labels: by function, then by number.
+-- The order of labels: by function, then by number. No label is before itself.
 abbrev pub IsBefore : NamedLabel → NamedLabel → Type 0
 IsBefore x y = (x.function ≤ y.function) × (x.function ≡ y.function → x.number < y.number)
 
--- The labels are in ascending order.
+-- The labels are in ascending order, each once.
 abbrev pub Ascend : List NamedLabel → Type 0
 Ascend [] = Unit {0}
 Ascend (x ∷ xs) = AllByRecursion (IsBefore x) xs × Ascend xs

@@ -47,7 +47,7 @@ item_view e = record { subsection = e.0.subsection; outer = e.0.outer; index = e
 abbrev pub items_view : List (Key × StoredName) → List NamedItem
 items_view names = map item_view names
 
--- The name of an item.
+-- The name of the item with this subsection, function or type, and index; `None` if it has none.
 abbrev pub name_at : List NamedItem → ℕ → ℕ → ℕ → Option Named
 name_at [] s outer index = None
 name_at (x ∷ xs) s outer index =

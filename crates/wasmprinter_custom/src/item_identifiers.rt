@@ -41,8 +41,8 @@ fn synthesized_identifier<'n>(
 
 impl<'n> Identifiers<'n, '_> {
     /// Returns the identifier of an item: that of its name or, if it has none and identifiers are synthesized, a
-    /// synthesized one. `outer` is the function of a local or label or the type of a field; for other items it is
-    /// ignored.
+    /// synthesized one, and otherwise `None`. `number` is the item's index. `outer` is the function of a local or label
+    /// or the type of a field; for other items it is ignored.
     pub fn item(&self, space: Space, outer: u64, number: u64) -> Option<Identifier<'n>>
         ensures { option_map identifier_view result
             ≡ name_in self.now.synthesizes (name_at self.now.names.now) (id_of space) (outer_of space outer) number }

@@ -19,7 +19,11 @@ pub trait ValueSource: Drop {
     fn again(&self) -> Self
         ensures { input result ≡ input self.now };
 
-    /// Reads the number of values.
+    /// Reads the number of values. On `Ok`, the cursor is then after it.
+    ///
+    /// # Errors
+    ///
+    /// `Malformed` if the bytes do not encode a number. The contract then says nothing of its place or of the cursor.
     fn count(&mut self) -> Result<u32, Malformed>
         ensures { Reads (λ n. n) u32_grammar.parse (input self.old) result (input self.new) };
 }
@@ -47,7 +51,11 @@ pub trait ReadFrom: Drop {
     /// The grammar's reader for the value.
     ghost parse: { Input → Option (Self × Input) };
 
-    /// Reads the value at the cursor.
+    /// Reads the value at the cursor. On `Ok`, the cursor is then after it.
+    ///
+    /// # Errors
+    ///
+    /// `Malformed` if the bytes do not encode a value. The contract then says nothing of its place or of the cursor.
     fn read(source: &mut Self::Source) -> Result<Self, Malformed>
         ensures { Reads (λ x. x) parse (Self.Source.input source.old) result (Self.Source.input source.new) };
 }

@@ -137,8 +137,8 @@ fn read_subsections<'a>(
 ///
 /// # Errors
 ///
-/// `Memory` if an allocation fails. The contract then says nothing of the builder. Without entries nothing is
-/// allocated. No other error is returned.
+/// `Memory` if an allocation fails. The contract then says nothing of the builder. No other error is returned
+/// (`memory`). If the section gives no entries, there is no error (`succeeds`).
 pub fn read_names<'a>(
     alloc: Global,
     builder: &mut NamesBuilder<'a>,

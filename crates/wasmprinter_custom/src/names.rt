@@ -138,7 +138,7 @@ impl<'a> NamesBuilder<'a> {
     }
 
     /// Gives an item a name, which replaces the name that the item has. Returns an error if an allocation fails; the
-    /// builder must then not be used any more.
+    /// contract then says nothing of the builder.
     pub(crate) fn add(
         &mut self,
         alloc: Global,
@@ -169,13 +169,12 @@ impl<'a> NamesBuilder<'a> {
         Ok(())
     }
 
-    /// Returns the names that were added, each with the identifier for it. If entries give several names to an item,
-    /// the last one counts.
+    /// Returns the names that were added, each with the identifier for it (`names`). If entries give several names to
+    /// an item, the last one counts.
     ///
     /// # Errors
     ///
-    /// If an allocation fails. Without names nothing is allocated. Giving back spare capacity may fail without an
-    /// error.
+    /// If an allocation fails. If the builder holds no entries, there is no error (`succeeds`).
     pub fn finish(self, alloc: Global) -> Result<Names<'a>, AllocError>
         ensures names { IfOk result (λ names. (entries : List Entry) → Holds entries self.entry
             → (s outer index : ℕ) → name_at names s outer index ≡ name_of entries s outer index) }
@@ -255,7 +254,7 @@ impl Names<'_> {
 /// The names of a module as they were given, each with its identifier in the text.
 pub trait NameEntries {
     /// Returns the name of an item, or `None` if it has none. `outer` is the function of a local or a label or the
-    /// type of a field; for other items it is ignored.
+    /// type of a field; for other items it is ignored. The index of a label is its [`LabelName::number`].
     fn name(&self, space: Space, outer: u64, index: u64) -> Option<Name<'_>>;
 
     /// Returns the labels that have names (`all`), in ascending order of function, then number, each once (`ascend`).

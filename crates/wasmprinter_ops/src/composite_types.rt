@@ -126,8 +126,8 @@ impl StorageType {
     }
 }
 
-/// Reads whether a field or a global can be changed. On `Ok`, the result and the new place are those that the
-/// grammar gives. After an error, the cursor may have advanced.
+/// Reads the byte that says whether a field or a global can be changed: 01 (`true`) or 00 (`false`). On `Ok`, the
+/// cursor is then after it. After an error, the cursor may have advanced.
 ///
 /// # Errors
 ///
@@ -335,8 +335,8 @@ impl<'a> SubTypes<'a> {
         })
     }
 
-    /// Reads a subtype that is not in a group, as a list of one type. On `Ok`, the result and the new place are
-    /// those that the grammar gives. After an error, the cursor may have advanced.
+    /// Reads a subtype that is not in a group, as a list of one type. On `Ok`, the cursor is then after it. After an
+    /// error, the cursor may have advanced.
     ///
     /// # Errors
     ///
@@ -349,8 +349,8 @@ impl<'a> SubTypes<'a> {
         SubTypes::read_times(cursor, 1)
     }
 
-    /// Reads a count and that many subtypes. On `Ok`, the result and the new place are those that the grammar
-    /// gives. After an error, the cursor may have advanced.
+    /// Reads a count and that many subtypes. On `Ok`, the cursor is then after them. After an error, the cursor may
+    /// have advanced.
     ///
     /// # Errors
     ///
@@ -364,7 +364,7 @@ impl<'a> SubTypes<'a> {
         SubTypes::read_times(cursor, count)
     }
 
-    /// Returns the number of types.
+    /// Returns the number of types that are left, without those that `next` has returned.
     pub fn len(&self) -> u32
         ensures { result ≡ length self.now }
     {
@@ -372,6 +372,7 @@ impl<'a> SubTypes<'a> {
     }
 
     /// Returns the types in order.
+    /// They are those that are left, without those that `next` has returned.
     pub fn iter(&self) -> SubTypes<'a>
         ensures { result ≡ self.now }
     {

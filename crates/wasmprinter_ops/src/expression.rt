@@ -95,15 +95,16 @@ fn skip_operators(alloc: Global, cursor: &mut Cursor) -> Result<u64, Error>
 }
 
 impl<'a> Expression<'a> {
-    /// Reads operators and the `end` that closes them. On `Ok`, the result and the new place are those that the
-    /// grammar gives. After an error, the cursor may have advanced.
+    /// Reads operators and the `end` that closes them. On `Ok`, the cursor is then after that `end`. After an error,
+    /// the cursor may have advanced.
     ///
     /// # Errors
     ///
     /// - `Malformed` if the bytes do not encode well-nested operators with their `end`, with a place as
     ///   [`Error::Malformed`](wasmprinter_bytes::Error::Malformed) describes it. The contract only says that this place
     ///   is not before the cursor's and not after the end of the bytes; tests check it.
-    /// - `Memory` if an allocation fails. Nothing is allocated before an operator opens a block.
+    /// - `Memory` if an allocation fails, which happens only if the bytes encode operators up to one that opens a block
+    ///   (`ReachesBlock`).
     ///
     /// No other error is returned.
     pub fn read(alloc: Global, cursor: &mut Cursor<'a>) -> Result<Self, Error>
@@ -117,7 +118,7 @@ impl<'a> Expression<'a> {
         })
     }
 
-    /// Returns a second view of the same bytes.
+    /// Returns the same expression again, as a second view of its bytes.
     pub fn fork(&self) -> Expression<'a>
         ensures { result ≡ self.now }
     {
@@ -126,8 +127,8 @@ impl<'a> Expression<'a> {
         }
     }
 
-    /// Returns the operators in order, without the last `end`. They are well nested (`nested`), and fewer than 2^64,
-    /// since each takes at least one byte in memory (`few`).
+    /// Returns the operators in order, each with its place, without the last `end` (`all`). They are well nested
+    /// (`nested`), and fewer than 2^64, since each takes at least one byte in memory (`few`).
     pub fn operators(&self) -> OperatorsReader<'a>
         ensures all { result ≡ self.now.items }
         ensures nested { Nests Sequence (roles self.now.items) }

@@ -171,8 +171,7 @@ pub enum Role {
 }
 
 impl Role {
-    /// Reports whether this is the role of `try`, `catch`, `catch_all` or `delegate` (exception handling proposal, its
-    /// first version). The role of `rethrow` is `Plain`.
+    /// Reports whether this is the role of `try`, `catch`, `catch_all` or `delegate` (legacy exception handling).
     pub fn is_of_try(self) -> bool
         ensures { result ≡ is_try (role_view self) }
     {

@@ -329,8 +329,8 @@ impl<'a> Operator<'a> {
     }
 }
 
-/// Reads an opcode that the table lists, and its immediates. On `Ok`, the result and the new place are those
-/// that the grammar gives. After an error, the cursor may have advanced.
+/// Reads an opcode that the table lists, and its immediates. On `Ok`, the cursor is then after them. After an error,
+/// the cursor may have advanced.
 ///
 /// # Errors
 ///
@@ -350,8 +350,8 @@ pub fn read_operator<'a>(cursor: &mut Cursor<'a>) -> Result<Operator<'a>, Malfor
     }
 }
 
-/// Reads an operator, and returns its place with it. On `Ok`, the result and the new place are those that the
-/// grammar gives. After an error, the cursor may have advanced.
+/// Reads an operator, and returns its place with it. On `Ok`, the cursor is then after it. After an error, the cursor
+/// may have advanced.
 ///
 /// # Errors
 ///

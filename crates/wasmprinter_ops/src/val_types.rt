@@ -140,8 +140,8 @@ impl HeapType {
     }
 }
 
-/// Reads a type index: a signed 33-bit number that is not negative. On `Ok`, the result and the new place are
-/// those that the grammar gives. After an error, the cursor may have advanced.
+/// Reads a type index: a signed 33-bit number that is not negative. On `Ok`, the cursor is then after it. After an
+/// error, the cursor may have advanced.
 ///
 /// # Errors
 ///
@@ -158,8 +158,8 @@ pub fn read_type_index(cursor: &mut Cursor) -> Result<u32, Malformed>
     }
 }
 
-/// Reads the byte of an abstract heap type, or a type index. On `Ok`, the result and the new place are those
-/// that the grammar gives. After an error, the cursor may have advanced.
+/// Reads the byte of an abstract heap type, or a type index. On `Ok`, the cursor is then after it. After an error, the
+/// cursor may have advanced.
 ///
 /// # Errors
 ///
@@ -201,8 +201,7 @@ impl RefType {
     }
 }
 
-/// Reads a reference type. On `Ok`, the result and the new place are those that the grammar gives. After an
-/// error, the cursor may have advanced.
+/// Reads a reference type. On `Ok`, the cursor is then after it. After an error, the cursor may have advanced.
 ///
 /// # Errors
 ///
@@ -253,8 +252,7 @@ pub fn begins_type(byte: u8) -> bool
         || HeapType::of_byte(byte).is_some()
 }
 
-/// Reads a value type. On `Ok`, the result and the new place are those that the grammar gives. After an error,
-/// the cursor may have advanced.
+/// Reads a value type. On `Ok`, the cursor is then after it. After an error, the cursor may have advanced.
 ///
 /// # Errors
 ///
@@ -276,8 +274,8 @@ impl Decode for ValType {
     }
 }
 
-/// Reads a count and that many value types. On `Ok`, the result and the new place are those that the grammar
-/// gives. After an error, the cursor may have advanced.
+/// Reads a count and that many value types. On `Ok`, the cursor is then after them. After an error, the cursor may have
+/// advanced.
 ///
 /// # Errors
 ///

@@ -14,7 +14,7 @@ pub fn literal_sequences() -> &'static str
     "\x1b[0m\x1b[31m"
 }
 
-/// Returns the ANSI escape sequences that start the style of names and of the numbers of items: magenta.
+/// Returns the ANSI escape sequences that start the style of the names and indices of items: magenta.
 #[tactic(auto, using(wasmprinter_spec::proofs::Sequences::name))]
 #[inline(always)]
 pub fn name_sequences() -> &'static str

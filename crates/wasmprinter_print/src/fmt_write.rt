@@ -20,7 +20,8 @@ pub trait WriteText: fmt::Write {
     // The results that a write of this text may have, and the states of the writer after it.
     ghost takes: { Self → List ℕ → Result (Unit {0}) FmtError → Self → Type 0 };
 
-    /// Writes `text`.
+    /// Writes `text`. `takes` says which results and which states after the call are allowed (`exact`). On `Ok`, the
+    /// contract of [`fmt::Write::write_str`] holds too (`text`).
     ///
     /// # Errors
     /// - [`fmt::Error`] if the writer failed.

@@ -68,7 +68,7 @@ pub trait Output {
     fn write_str(&mut self, s: &str)
         ensures { called self.old self.new (Text s.now ∷ []) };
 
-    /// Writes a text, by a call for each of its characters unless the printer implements this differently.
+    /// Writes a text. The printer may split it into several calls: how is not part of the contract.
     fn write_each_char(&mut self, s: &str)
         ensures { called self.old self.new (Text s.now ∷ []) };
 
@@ -79,7 +79,7 @@ pub trait Output {
     fn end_line(&mut self)
         ensures { called self.old self.new (Newline ∷ []) };
 
-    /// Starts a line for the item at this byte offset, if any.
+    /// Starts a line for the item at this byte offset from the start of the module, or for no item if it is `None`.
     fn start_line(&mut self, place: Option<u64>)
         ensures { called self.old self.new (Line place ∷ []) };
 
@@ -95,13 +95,14 @@ pub trait Output {
     fn write_level(&mut self)
         ensures { called self.old self.new (Text chosen.indent ∷ []) };
 
-    /// Writes the indent of this many levels, at most 50, in one call, if it is available as one text. Returns
-    /// whether it was written.
+    /// Writes the indent of this many levels, at most 50, and returns `true`; or writes nothing and returns `false`,
+    /// which any call may do.
     fn write_levels(&mut self, levels: usize) -> bool
         requires { levels ≤ most_indents }
         ensures { called self.old self.new (if result then Text (repetition_of levels chosen.indent) ∷ [] else []) };
 
-    /// Asks the printer whether it claims a custom section: its name, the byte offset of its data, and the data.
+    /// Asks the printer whether it claims a custom section, and returns the answer, which means nothing once an error
+    /// has occurred. `place` is the byte offset of the section's data, `bytes`, from the start of the module.
     fn print_custom_section(&mut self, name: &str, place: u64, bytes: &[u8]) -> bool
         ensures { called self.old self.new (Claim name.now place bytes.now result ∷ []) };
 
@@ -117,7 +118,8 @@ pub trait Output {
     fn has_begun(&self) -> bool
         ensures { result ≡ begun self.now };
 
-    /// Leaves the innermost group. A line that began in it has then begun in the group around it.
+    /// Leaves the innermost group. A line that began in it has then begun in the group around it. `outer_begun` is
+    /// the result of [`Output::enter_group`] for this group: the laws of groups need it.
     fn leave_group(&mut self, outer_begun: bool)
         ensures { left_group self.old self.new outer_begun };
 
@@ -174,8 +176,8 @@ pub trait Output {
 /// The output of layout code that may fold operators. Other layout code is generic over [`Output`] alone, so it can't
 /// record that memory ran out.
 pub trait FoldingOutput: Output {
-    /// Records that an allocation failed while operators are folded. It makes no call. An empty list of calls is a
-    /// prefix of the calls of any pieces, so the contract holds for each list of pieces.
+    /// Records that an allocation failed, and makes no call. The options must fold operators. An empty list of calls is
+    /// a prefix of the calls of any pieces, so the contract holds for each list of pieces.
     fn run_out_of_memory(&mut self)
         requires { Self.chosen.folds ≡ true }
         ensures { (xs : List Piece) → Self.wrote self.old self.new xs };

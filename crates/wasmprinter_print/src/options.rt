@@ -53,7 +53,7 @@ impl PrintOptions {
     ghost use Rattle.wasmprinter_spec.specs.Piece.{most_indents, repetition_of};
 
     /// Returns the default options: no places before lines, complete bodies, no synthesized identifiers, no
-    /// folding, and an indentation of two spaces. Allocates no memory.
+    /// folding, and an indentation of two spaces.
     pub fn new() -> PrintOptions
         ensures { result ≡ defaults }
     {
@@ -66,7 +66,7 @@ impl PrintOptions {
         }
     }
 
-    /// Sets the text of one level of indentation. The other options stay as they are. Allocates no memory.
+    /// Sets the text of one level of indentation. The other options stay as they are.
     pub fn set_indent(&mut self, text: String)
         ensures { self.new ≡ record self.old { indent = string_bytes text } }
     {

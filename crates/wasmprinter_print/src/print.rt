@@ -11,6 +11,10 @@ use std::io;
 /// An implementation states the meaning of its calls: the state that each call leaves, when it may fail, and the
 /// state after a failure. All printing code is proved against this meaning. Printing stops at the first call that
 /// fails, and returns that call's error.
+///
+/// `Does meaning old call new result` says that the meaning allows this result of the call in the state `old`, with the
+/// state `new` after it. A failure is counted if the meaning counts failures. `Asks` says the same of a call that
+/// returns an answer, `Succeeded` of one that cannot fail.
 pub trait Print {
     /// The meaning of the calls: the state that each call leaves, when it may fail, and the state after a failure.
     ghost meaning: { Meaning Self };
@@ -26,10 +30,11 @@ pub trait Print {
         ensures { Does meaning self.old (Text s.now) self.new result };
 
     /// Writes a run of characters of a quoted string. Printing calls it only if [`Print::takes_runs`] returns `true`.
-    /// The default body makes one call of [`Print::write_str`] for each character.
+    /// The default body makes one call of [`Print::write_str`] for each character. By the contract (`MadeCalls`), any
+    /// calls will do that together write the text.
     ///
     /// # Errors
-    /// - The printer's error. Printing stops and returns it.
+    /// - The printer's error. Printing stops and returns it. The calls up to the failed one were then made.
     fn write_each_char(&mut self, s: &str) -> io::Result<()>
         ensures { MadeCalls meaning self.old self.new (ending result) (Text s.now ∷ []) }
     {

@@ -17,7 +17,7 @@ pub trait PrintText {
     // every result and state.
     ghost writes: { Self → List ℕ → Result (Unit {0}) IoError → Self → Type 0 } = { λ _ _ _ _. Unit {0} };
 
-    /// Writes a piece of text.
+    /// Writes a piece of text. `writes` says which results and which states after the call are allowed: by default all.
     ///
     /// # Errors
     /// - The printer's error. Printing stops and returns it.
@@ -105,8 +105,8 @@ impl<T: PrintText> Print for T {
     }
 }
 
-/// A law for any function `view` from the printer to bytes: if each successful write appends its bytes to the view,
-/// then calls that all succeed append their text to it.
+/// States, for any function `view` from the printer to bytes: if each successful write appends its bytes to the view
+/// (`Grows`), then calls that all succeed append their text to it (`TextIsGained`).
 pub fn text_is_gained<T: PrintText>()
     ensures { (view : T → List ℕ) → Grows view T.writes → TextIsGained view T.writes }
 {}

@@ -30,8 +30,8 @@ pub struct Printer<'o, 'p, P, K: LayoutOptions> {
 impl<'o, 'p, P, K: LayoutOptions> Printer<'o, 'p, P, K> {
     /// Creates an output over `printer`. No error is recorded, and no line has begun.
     ///
-    /// `K.options` are the options as contracts know them: `options`, and whether the text of folded operators has ANSI
-    /// escape sequences, which `PrintOptions` does not hold.
+    /// `K.options`, the options as contracts know them, must be `options`, except for whether the text of folded
+    /// operators has ANSI escape sequences, which `PrintOptions` does not hold.
     pub fn new(printer: &'p mut P, options: &'o PrintOptions) -> Printer<'o, 'p, P, K>
         requires { with_color options.now K.options.color ≡ K.options }
         ensures printer { result.printer ≡ printer.entry }
@@ -48,7 +48,8 @@ impl<'o, 'p, P, K: LayoutOptions> Printer<'o, 'p, P, K> {
         }
     }
 
-    /// Ends the output, so that its printer can be used again. Returns the error that was recorded, if any.
+    /// Ends the output, so that its printer can be used again, in the state that it has now (`printer`). Returns the
+    /// error that was recorded, if any (`result`).
     ///
     /// # Errors
     ///

@@ -41,8 +41,9 @@ impl<'a> OffsetsAndLines<'a> {
     ghost use Rattle.std.specs.Prelude.{◌≡◌};
     ghost use Rattle.wasmprinter_writers.specs.Cuts.{lines_at_starts, AreLineStarts};
 
-    /// Returns an iterator over the lines of `text` that start at `starts`. Allocates no memory. The starts must not
-    /// decrease, and each must be at a character boundary of `text`. A line ends where the next one starts.
+    /// Returns an iterator over the lines of `text` that start at `starts`. The starts must not decrease, and each must
+    /// be at a character boundary of `text`. A line ends where the next one starts, the last line at the end of `text`.
+    /// In contracts, the iterator is the text (`storage`) and the lines that are left (`lines`).
     pub fn new(text: &'a str, starts: Vec<LineStart>) -> OffsetsAndLines<'a>
         requires { AreLineStarts starts.items text.now }
         ensures { result ≡ record { storage = text.now; lines = lines_at_starts starts.items text.now } }

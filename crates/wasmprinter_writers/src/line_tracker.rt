@@ -55,7 +55,7 @@ impl LineTracker {
     ghost use Rattle.wasmprinter_writers.specs.Tracked.{without_lines, with_text};
     ghost use Rattle.wasmprinter_writers.specs.Cuts.{lines_at_starts, AreLineStarts};
 
-    /// Returns a tracker that appends to `text`, without lines. Allocates no memory.
+    /// Returns a tracker that appends to `text`. It has no lines, and has lost none.
     pub fn new(alloc: Global, text: String) -> LineTracker
         ensures { result ≡ without_lines (string_bytes text) }
     {
@@ -111,14 +111,14 @@ impl LineTracker {
         Ok(())
     }
 
-    /// Returns the text and the starts of its lines. The text is returned even if the line starts are not. The starts
-    /// do not decrease, and each is at a character boundary of the text, so the text can be cut at them
+    /// Returns the text and the starts of its lines. The text is returned even if the line starts are not (`text`). The
+    /// starts do not decrease, and each is at a character boundary of the text, so the text can be cut at them
     /// (`boundaries`). This gives the lines of the tracker (`lines`).
     ///
     /// # Errors
     ///
-    /// - [`AllocError`] if the last line has no text and an allocation for its start failed, or if a line was lost
-    ///   before.
+    /// - [`AllocError`] if a line was lost before (`none_lost`), or if the last line has no text yet and an allocation
+    ///   for its start failed. In no other case (`succeeds`).
     pub fn finish(mut self) -> (String, Result<Vec<LineStart>, AllocError>)
         ensures text { string_bytes result.0 ≡ self.text }
         ensures lines { IfOk result.1 (λ starts. lines_at_starts starts.items self.text ≡ self.lines) }

@@ -40,6 +40,8 @@ impl<W: WriteBytes> Write for NoColor<W> {
         self.inner.flush()
     }
 
+    // Writes all bytes as one write of the wrapped writer, and returns its result (`exact`). On `Ok`, the wrapped
+    // writer's contents, if it reports them, grow by the bytes (`bytes`).
     fn write_all(&mut self, buf: &[u8]) -> io::Result<()>
         ensures exact { W.takes self.old.inner buf.now result self.new.inner }
         ensures bytes { OnOk result (Appends (W.contents self.old.inner) (W.contents self.new.inner) buf.now) }

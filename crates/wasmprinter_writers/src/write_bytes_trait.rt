@@ -15,7 +15,12 @@ pub trait WriteBytes: Write {
     // The results that a write of these bytes may have, and the states of the writer after it.
     ghost takes: { Writing Self };
 
-    /// Writes all bytes, or returns the writer's error.
+    /// Writes all bytes. `takes` says which results and which states after the call are allowed (`exact`). On `Ok`, the
+    /// writer's contents, if it reports them, grow by the bytes (`bytes`).
+    ///
+    /// # Errors
+    ///
+    /// - The writer's error. The contract of [`Write`] does not say how many of the bytes were then written.
     fn write_bytes(&mut self, bytes: &[u8]) -> io::Result<()>
         ensures exact { takes self.old bytes.now result self.new }
         ensures bytes { OnOk result (Appends (Self.contents self.old) (Self.contents self.new) bytes.now) };

@@ -6,7 +6,8 @@ use crate::ColorSpec;
 use std::io;
 use std::io::Write;
 
-/// A writer that can set the look of the text after a call.
+/// A writer that can set the look of the text after a call. `sets_color` says which results such a call may have, and
+/// the states of the writer after it.
 pub trait WriteColor: Write {
     /// The results that a call for this look may have, and the states of the writer after it. `None` is the look of
     /// text without colors.
@@ -24,10 +25,18 @@ pub trait WriteColor: Write {
         ensures { result ≡ is_colored self.now };
 
     /// Sets the look of the text after this call. It replaces the look that was set before.
+    ///
+    /// # Errors
+    ///
+    /// - The writer's error.
     fn set_color(&mut self, spec: &ColorSpec) -> io::Result<()>
         ensures { sets_color self.old (Some spec.now) result self.new };
 
     /// Ends all colors: the text after this call has none.
+    ///
+    /// # Errors
+    ///
+    /// - The writer's error.
     fn reset(&mut self) -> io::Result<()>
         ensures { sets_color self.old None result self.new };
 
