@@ -61,7 +61,7 @@ ReadsOrFails view by old (Err e) new = HasReason (reader_reasons (by.parse old �
 -- The call reads a value by the reader `by` at the position `old`, returns `result`, and leaves the cursor at `new`.
 -- `view` maps a value of the program to that of the definitions. This is `Decodes` for a value whose reading may
 -- allocate.
-pub record Takes {X A : Type 0} (view : X → A) (by : Reader A) (old : Input) (result : Result X Error) (new : Input) : Type 0 where
+pub record DecodesWithAllocation {X A : Type 0} (view : X → A) (by : Reader A) (old : Input) (result : Result X Error) (new : Input) : Type 0 where
   -- The value and the position `new` are those of the reader, or the error has its reason.
   pub reads : ReadsOrFails view by old result new
   -- The bytes end where they ended before.

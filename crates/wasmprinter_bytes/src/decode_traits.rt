@@ -1,7 +1,7 @@
 //! Values that can be read from bytes, and lists of them in memory (section 5.1 of the WebAssembly Core Specification,
 //! "Lists"): a count, and that many values.
 ghost use Rattle.wasmprinter_bytes.specs.Reads.{Decodes};
-ghost use Rattle.wasmprinter_bytes.specs.Lists.{Takes, reader, CountsItems, BeginsList, vec_at};
+ghost use Rattle.wasmprinter_bytes.specs.Lists.{DecodesWithAllocation, reader, CountsItems, BeginsList, vec_at};
 
 use crate::cursor::Cursor;
 use crate::{Error, Malformed};
@@ -68,7 +68,7 @@ pub fn read_list<'a, T: DecodeIn<'a>>(
     alloc: Global,
     cursor: &mut Cursor<'a>,
 ) -> Result<Vec<T>, Error>
-    ensures { Takes (λ v. v.items) (reader (vec_at T.parse) (BeginsList T.parse)) cursor.old result cursor.new }
+    ensures { DecodesWithAllocation (λ v. v.items) (reader (vec_at T.parse) (BeginsList T.parse)) cursor.old result cursor.new }
 {
     let count = cursor.u32()?;
     let mut values = Vec::new(alloc);
@@ -99,7 +99,7 @@ pub trait GrownIn<'a>: Drop {
     /// - `Memory` if an allocation fails, which happens only if `grows` holds for the cursor before the call. No other
     ///   error is returned.
     fn read(alloc: Global, cursor: &mut Cursor<'a>) -> Result<Self, Error>
-        ensures { Takes (λ x. x) (reader parse grows) cursor.old result cursor.new };
+        ensures { DecodesWithAllocation (λ x. x) (reader parse grows) cursor.old result cursor.new };
 }
 
 /// Reads a count and that many values for which reading may allocate, and returns the values in memory. On `Ok`, the
@@ -115,7 +115,7 @@ pub fn read_grown_list<'a, T: GrownIn<'a>>(
     alloc: Global,
     cursor: &mut Cursor<'a>,
 ) -> Result<Vec<T>, Error>
-    ensures { Takes (λ v. v.items) (reader (vec_at T.parse) CountsItems) cursor.old result cursor.new }
+    ensures { DecodesWithAllocation (λ v. v.items) (reader (vec_at T.parse) CountsItems) cursor.old result cursor.new }
 {
     let count = cursor.u32()?;
     let mut grown = Vec::new(alloc);

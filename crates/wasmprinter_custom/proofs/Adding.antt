@@ -23,7 +23,7 @@ use Rattle.wasmprinter_spec.specs.Names.Content.{is_among, entry_name, last_name
 use Rattle.wasmprinter_custom.specs.Views.{given_cmp, key_cmp, content_or, stored_view, item_view, items_view, name_at}
 use Rattle.wasmprinter_custom.specs.Lookups.{Gains, stored_at}
 use Rattle.wasmprinter_custom.specs.Labels.{HaveLabelIdentifiers}
-use Rattle.wasmprinter_custom.specs.Holds.{names_given, Holds}
+use Rattle.wasmprinter_custom.specs.HoldsEntries.{names_given, HoldsEntries}
 use Rattle.wasmprinter_custom.specs.declared.names.Given.{Given}
 use Rattle.wasmprinter_custom.specs.declared.names.Key.{Key}
 use Rattle.wasmprinter_custom.specs.declared.names.StoredName.{StoredName}
@@ -181,12 +181,12 @@ same_space entries e s outer h =
 
 -- ---- One more entry in the store
 
-pub Holds-entry : (entries : List Entry) (a b : NamesBuilder) (e : Entry) (g : Given) (p : Key) (x : StoredName)
+pub HoldsEntries-entry : (entries : List Entry) (a b : NamesBuilder) (e : Entry) (g : Given) (p : Key) (x : StoredName)
     → (g.subsection ≡ e.subsection) × (g.outer ≡ e.outer) × (g.name.now ≡ e.name) → (p.subsection ≡ e.subsection) × (p.outer ≡ e.outer) × (p.index ≡ e.index)
     → set.Updates given_cmp a.given b.given g true → Gains a.names b.names p x
     → stored_view x ≡ entry_name e.subsection (names_given [] (entries_in e.subsection e.outer entries)) e
-    → Holds entries a → Holds (entries ++ e ∷ []) b
-Holds-entry entries a b e g p x gs ps given names is h = record {
+    → HoldsEntries entries a → HoldsEntries (entries ++ e ∷ []) b
+HoldsEntries-entry entries a b e g p x gs ps given names is h = record {
   given = λ q.
       given.0 q ∙ or_if (is_at (given_cmp g) q) (contains given_cmp a.given q)
       ∙ ap (λ (t : Bool). t || contains given_cmp a.given q) (same_given g q ∙ ap (λ (k : ℕ). (nat_eq k q.subsection && nat_eq g.outer q.outer) && bytes_eq g.name.now q.name.now) gs.0

@@ -7,17 +7,17 @@ use Rattle.wasmprinter_bytes.specs.declared.library_error.Error.{Error}
 use Rattle.wasmprinter_bytes.specs.declared.library_error.Error.TheVariants.{Malformed, Memory}
 use Rattle.wasmprinter_spec.specs.Lenient.{Lenient, follow, repeat, repeat_at, continue_with, prepend}
 use Rattle.wasmprinter_spec.specs.Names.Section.{Entry}
-use Rattle.wasmprinter_custom.specs.Holds.{Holds}
+use Rattle.wasmprinter_custom.specs.HoldsEntries.{HoldsEntries}
 use Rattle.wasmprinter_custom.specs.Adds.{Grows, AddsUpTo, AddsBefore}
 use Rattle.wasmprinter_custom.specs.declared.names.NamesBuilder.{NamesBuilder}
 
 -- ---- A store that grows
 
 pub grows_none : (a : NamesBuilder) → Grows a a []
-grows_none a = λ es h. subst (λ (xs : List Entry). Holds xs a) (sym (append-nil es)) h
+grows_none a = λ es h. subst (λ (xs : List Entry). HoldsEntries xs a) (sym (append-nil es)) h
 
 pub grows_more : (a b c : NamesBuilder) (xs ys : List Entry) → Grows a b xs → Grows b c ys → Grows a c (xs ++ ys)
-grows_more a b c xs ys g k = λ es h. subst (λ (zs : List Entry). Holds zs c) (append_assoc es xs ys) (k (es ++ xs) (g es h))
+grows_more a b c xs ys g k = λ es h. subst (λ (zs : List Entry). HoldsEntries zs c) (append_assoc es xs ys) (k (es ++ xs) (g es h))
 
 -- ---- Reading entries n times
 

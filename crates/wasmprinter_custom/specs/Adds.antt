@@ -5,12 +5,12 @@ use Rattle.wasmprinter_spec.specs.Lenient.{Lenient}
 use Rattle.wasmprinter_spec.specs.Names.Section.{Entry, GivesNames}
 use Rattle.wasmprinter_bytes.specs.declared.library_error.Error.{Error}
 use Rattle.wasmprinter_bytes.specs.declared.library_error.Error.TheVariants.{Malformed, Memory}
-use Rattle.wasmprinter_custom.specs.Holds.{Holds}
+use Rattle.wasmprinter_custom.specs.HoldsEntries.{HoldsEntries}
 use Rattle.wasmprinter_custom.specs.declared.names.NamesBuilder.{NamesBuilder}
 
 -- The store holds these entries, after those that it held before.
 abbrev pub Grows : NamesBuilder → NamesBuilder → List Entry → Type 0
-Grows old new xs = (entries : List Entry) → Holds entries old → Holds (entries ++ xs) new
+Grows old new xs = (entries : List Entry) → HoldsEntries entries old → HoldsEntries (entries ++ xs) new
 
 -- The entries that reading gives were added, and `end` is the position after them, or `None` if reading met an error.
 abbrev pub AddsUpTo : Lenient Entry → Input → NamesBuilder → NamesBuilder → Option Input → Type 0

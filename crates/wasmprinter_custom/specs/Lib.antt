@@ -4,7 +4,7 @@ pub mod Contents
 pub mod Entries
 pub mod FlagPieces
 pub mod Flags
-pub mod Holds
+pub mod HoldsEntries
 pub mod Judgements
 pub mod LabelViews
 pub mod Labels

@@ -3,7 +3,7 @@ ghost use Rattle.std.specs.Prelude.{◌≡◌, ◌++◌, List, [], OnOk, IfErr, 
 ghost use Rattle.wasmprinter_bytes.specs.declared.library_error.Error.TheVariants.{Memory};
 ghost use Rattle.wasmprinter_spec.specs.Names.Section.{Entry, entry, module_name, name_map, inner_map, indirect_map, content};
 ghost use Rattle.wasmprinter_spec.specs.Names.Section.{subsection, GivesNames};
-ghost use Rattle.wasmprinter_custom.specs.Holds.{Holds};
+ghost use Rattle.wasmprinter_custom.specs.HoldsEntries.{HoldsEntries};
 ghost use Rattle.wasmprinter_custom.specs.Adds.{Adds, AddsNames};
 
 use crate::name_subsection_ids::{FIELD, LABEL, LOCAL, MODULE, TAG};
@@ -144,8 +144,8 @@ pub fn read_names<'a>(
     builder: &mut NamesBuilder<'a>,
     section: Cursor<'a>,
 ) -> Result<(), Error>
-    ensures names { OnOk result ((entries gives : List Entry) → GivesNames section.entry gives → Holds entries builder.old
-        → Holds (entries ++ gives) builder.new) }
+    ensures names { OnOk result ((entries gives : List Entry) → GivesNames section.entry gives → HoldsEntries entries builder.old
+        → HoldsEntries (entries ++ gives) builder.new) }
     ensures memory { IfErr result (λ e. e ≡ Memory) }
 
     // Only entries need memory.

@@ -125,11 +125,11 @@ pub struct NamesBuilder<'a> {
 }
 
 impl<'a> NamesBuilder<'a> {
-    ghost use Rattle.wasmprinter_custom.specs.Holds.{Holds};
+    ghost use Rattle.wasmprinter_custom.specs.HoldsEntries.{HoldsEntries};
 
     /// Returns an empty builder: it holds no entries.
     pub fn new(alloc: Global) -> Self
-        ensures { Holds [] result }
+        ensures { HoldsEntries [] result }
     {
         NamesBuilder {
             given: BTreeSet::new(alloc),
@@ -147,8 +147,8 @@ impl<'a> NamesBuilder<'a> {
         index: u64,
         name: &'a str,
     ) -> Result<(), AllocError>
-        ensures { OnOk result ((entries : List Entry) → Holds entries self.old
-            → Holds (entries ++ entry_of subsection outer (index, name.now) ∷ []) self.new) }
+        ensures { OnOk result ((entries : List Entry) → HoldsEntries entries self.old
+            → HoldsEntries (entries ++ entry_of subsection outer (index, name.now) ∷ []) self.new) }
     {
         let is_new = self.given.insert(Given {
             subsection,
@@ -176,11 +176,11 @@ impl<'a> NamesBuilder<'a> {
     ///
     /// If an allocation fails. If the builder holds no entries, there is no error (`succeeds`).
     pub fn finish(self, alloc: Global) -> Result<Names<'a>, AllocError>
-        ensures names { IfOk result (λ names. (entries : List Entry) → Holds entries self.entry
+        ensures names { IfOk result (λ names. (entries : List Entry) → HoldsEntries entries self.entry
             → (s outer index : ℕ) → name_at names s outer index ≡ name_of entries s outer index) }
 
         // Only names need memory.
-        ensures succeeds { Holds [] self.entry → IsOk result }
+        ensures succeeds { HoldsEntries [] self.entry → IsOk result }
     {
         let entries = self.names.into_list(alloc)?;
         let guesses = Guesses::new(alloc, &entries)?;

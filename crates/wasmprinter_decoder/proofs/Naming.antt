@@ -9,16 +9,16 @@ use Rattle.wasmprinter_spec.specs.Names.Section.{Entry, GivesNames}
 use Rattle.wasmprinter_spec.specs.ModuleNames.{entries_given, custom_entries, name_entries}
 use Rattle.wasmprinter_spec.proofs.NameSections.{gives_some}
 use Rattle.wasmprinter_custom.specs.declared.names.NamesBuilder.{NamesBuilder}
-use Rattle.wasmprinter_custom.specs.Holds.{Holds}
+use Rattle.wasmprinter_custom.specs.HoldsEntries.{HoldsEntries}
 
 -- The invariant of the loop: the builder holds the entries of the custom sections before number `i`.
 pub record Naming (customs : List CustomEntry) (i : ℕ) (b : NamesBuilder) : Type 0 where
   pub entries : List Entry
-  pub kept : Holds entries b
+  pub kept : HoldsEntries entries b
   pub all : entries ++ name_entries (drop i customs) ≡ name_entries customs
 
 -- Before the loop the builder holds no entries.
-pub naming_none : (customs : List CustomEntry) (b : NamesBuilder) → Holds [] b → Naming customs 0 b
+pub naming_none : (customs : List CustomEntry) (b : NamesBuilder) → HoldsEntries [] b → Naming customs 0 b
 naming_none customs b h = record { entries = []; kept = h; all = refl }
 
 -- If two lists together are empty, then the first is empty.
@@ -38,7 +38,7 @@ module _ (customs : List CustomEntry) (i : ℕ) (b : NamesBuilder) (c : CustomEn
   split = at_drop_more name_entries customs i c lt ∙ ap (λ (x : CustomEntry). name_entries (x ∷ drop (i + 1) customs)) (sym same)
 
   -- If its entries were added to the builder, then the invariant holds after it.
-  naming_more : (next : NamesBuilder) (gives : List Entry) → custom_entries c.section.value ≡ gives → Holds (k.entries ++ gives) next → Naming customs (i + 1) next
+  naming_more : (next : NamesBuilder) (gives : List Entry) → custom_entries c.section.value ≡ gives → HoldsEntries (k.entries ++ gives) next → Naming customs (i + 1) next
   naming_more next gives e h = record {
     entries = k.entries ++ gives;
     kept = h;
@@ -51,7 +51,7 @@ module _ (customs : List CustomEntry) (i : ℕ) (b : NamesBuilder) (c : CustomEn
   pub naming_other : bytes_eq c.section.value.name name_section ≡ false → Naming customs (i + 1) b
   naming_other other =
       let none : custom_entries c.section.value ≡ [] = rw other refl in
-      naming_more b [] none (subst (λ (xs : List Entry). Holds xs b) (sym (append-nil k.entries)) k.kept)
+      naming_more b [] none (subst (λ (xs : List Entry). HoldsEntries xs b) (sym (append-nil k.entries)) k.kept)
 
   -- It is a name section.
   module _ (section : Input) (is : bytes_eq c.section.value.name name_section ≡ true) (stands : section ≡ input c.section.value.bytes.place c.section.value.bytes.value) where
@@ -62,7 +62,7 @@ module _ (customs : List CustomEntry) (i : ℕ) (b : NamesBuilder) (c : CustomEn
     given = subst (λ (at : Input). GivesNames at (entries_given c.section.value.bytes)) (sym stands) (gives_some (input c.section.value.bytes.place c.section.value.bytes.value))
 
     -- If reading it added its entries to the builder, then the invariant holds after it.
-    pub naming_read : (next : NamesBuilder) → ((entries gives : List Entry) → GivesNames section gives → Holds entries b → Holds (entries ++ gives) next) → Naming customs (i + 1) next
+    pub naming_read : (next : NamesBuilder) → ((entries gives : List Entry) → GivesNames section gives → HoldsEntries entries b → HoldsEntries (entries ++ gives) next) → Naming customs (i + 1) next
     naming_read next h = naming_more next (entries_given c.section.value.bytes) its (h k.entries (entries_given c.section.value.bytes) given k.kept)
 
     -- If the module has no entries, then this section gives none.
@@ -73,6 +73,6 @@ module _ (customs : List CustomEntry) (i : ℕ) (b : NamesBuilder) (c : CustomEn
         subst (GivesNames section) (sym its ∙ nil) given
 
 -- If no section is left, then the builder holds the entries of all custom sections.
-pub naming_done : (customs : List CustomEntry) (i : ℕ) (b : NamesBuilder) → drop i customs ≡ [] → Naming customs i b → Holds (name_entries customs) b
+pub naming_done : (customs : List CustomEntry) (i : ℕ) (b : NamesBuilder) → drop i customs ≡ [] → Naming customs i b → HoldsEntries (name_entries customs) b
 naming_done customs i b past k =
-    subst (λ (xs : List Entry). Holds xs b) (sym (append-nil k.entries) ∙ ap (λ (cs : List CustomEntry). k.entries ++ name_entries cs) (sym past) ∙ k.all) k.kept
+    subst (λ (xs : List Entry). HoldsEntries xs b) (sym (append-nil k.entries) ∙ ap (λ (cs : List CustomEntry). k.entries ++ name_entries cs) (sym past) ∙ k.all) k.kept

@@ -11,12 +11,12 @@ use Rattle.wasmprinter_bytes.specs.Lists.{CountsItems}
 use Rattle.wasmprinter_ops.specs.Operators.{ReachesBlock}
 use Rattle.wasmprinter_decoder.specs.Segments.{is_inactive, is_explicit, holds_expressions, omits_kind, mode_by}
 
--- The bytes begin with a value, and `Holds` holds of it and of the position after it.
-pub record After {A : Type 0} (parse : Input → Option (A × Input)) (Holds : A → Input → Type 0) (at : Input) : Type 0 where
+-- The bytes begin with a value, and `HoldsEntries` holds of it and of the position after it.
+pub record After {A : Type 0} (parse : Input → Option (A × Input)) (HoldsEntries : A → Input → Type 0) (at : Input) : Type 0 where
   pub value : A
   pub after : Input
   pub read : parse at ≡ Some (value, after)
-  pub holds : Holds value after
+  pub holds : HoldsEntries value after
 
 -- Reading a body may allocate in the expression after its locals.
 abbrev pub HasBlocks : Input → Type 0

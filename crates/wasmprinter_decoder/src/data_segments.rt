@@ -4,7 +4,7 @@ ghost use Rattle.wasmprinter_spec.specs.Grammar.{value_with_place};
 ghost use Rattle.wasmprinter_spec.specs.Binary.DataSegments.{data_mode, byte_vec, segment, data_count_section};
 ghost use Rattle.wasmprinter_spec.specs.Sections.{DataSection};
 ghost use Rattle.wasmprinter_bytes.specs.Reads.{Decodes};
-ghost use Rattle.wasmprinter_bytes.specs.Lists.{Takes, reader};
+ghost use Rattle.wasmprinter_bytes.specs.Lists.{DecodesWithAllocation, reader};
 ghost use Rattle.wasmprinter_decoder.specs.Growing.{DataModeGrows, DataGrows};
 ghost use Rattle.wasmprinter_decoder.specs.Contents.{DecodesContent, ReadsAll};
 ghost use Rattle.wasmprinter_decoder.specs.Segments.{data_mode_view};
@@ -63,7 +63,7 @@ impl<'a> DataMode<'a> {
     /// Reads the memory and the offset, as the flags require.
     fn read(alloc: Global, flags: u32, cursor: &mut Cursor<'a>) -> Result<Self, Error>
         requires { flags < 3 }
-        ensures { Takes data_mode_view (reader (data_mode flags).parse (DataModeGrows flags)) cursor.old result cursor.new }
+        ensures { DecodesWithAllocation data_mode_view (reader (data_mode flags).parse (DataModeGrows flags)) cursor.old result cursor.new }
     {
         match flags {
             ACTIVE => {

@@ -4,7 +4,7 @@ ghost use Rattle.wasmprinter_spec.specs.Grammar.{value_with_place};
 ghost use Rattle.wasmprinter_spec.specs.Binary.Elements.{element as element_grammar, function_items, expression_items};
 ghost use Rattle.wasmprinter_spec.specs.Sections.{ElementSection};
 ghost use Rattle.wasmprinter_bytes.specs.Reads.{Decodes};
-ghost use Rattle.wasmprinter_bytes.specs.Lists.{Takes, reader, CountsItems};
+ghost use Rattle.wasmprinter_bytes.specs.Lists.{DecodesWithAllocation, reader, CountsItems};
 ghost use Rattle.wasmprinter_decoder.specs.Growing.{ModeGrows, ItemsGrow, ElementGrows};
 ghost use Rattle.wasmprinter_ops.specs.ValTypes.{ref_view};
 ghost use Rattle.wasmprinter_decoder.specs.Contents.{DecodesContent};
@@ -93,7 +93,7 @@ impl<'a> Model for Element<'a> {
 impl<'a> ElementMode<'a> {
     /// Reads the table and the offset, as the flags require.
     fn read(alloc: Global, flags: u32, cursor: &mut Cursor<'a>) -> Result<Self, Error>
-        ensures { Takes element_mode_view (reader (mode_by flags).parse (ModeGrows flags)) cursor.old result cursor.new }
+        ensures { DecodesWithAllocation element_mode_view (reader (mode_by flags).parse (ModeGrows flags)) cursor.old result cursor.new }
     {
         let is_explicit = has_bit(flags, EXPLICIT_BIT);
         if has_bit(flags, INACTIVE_BIT) {
@@ -119,7 +119,7 @@ impl<'a> ElementItems<'a> {
 
     /// Reads a count and that many expressions.
     fn read_expressions(alloc: Global, ty: RefType, cursor: &mut Cursor<'a>) -> Result<Self, Error>
-        ensures { Takes element_items_view (reader (expression_items (ref_view ty)).parse CountsItems) cursor.old result cursor.new }
+        ensures { DecodesWithAllocation element_items_view (reader (expression_items (ref_view ty)).parse CountsItems) cursor.old result cursor.new }
     {
         let expressions = read_grown_list(alloc, cursor)?;
         Ok(ElementItems::Expressions(ty, expressions))
@@ -127,7 +127,7 @@ impl<'a> ElementItems<'a> {
 
     /// Reads the items, with their kind or type if the flags require it.
     fn read(alloc: Global, flags: u32, cursor: &mut Cursor<'a>) -> Result<Self, Error>
-        ensures { Takes element_items_view (reader (items_by flags).parse (ItemsGrow flags)) cursor.old result cursor.new }
+        ensures { DecodesWithAllocation element_items_view (reader (items_by flags).parse (ItemsGrow flags)) cursor.old result cursor.new }
     {
         let is_omitted = is_kind_omitted(flags);
         if has_bit(flags, EXPRESSIONS_BIT) {

@@ -3,7 +3,7 @@ ghost use Rattle.std.specs.Prelude.{◌≡◌, ◌↔◌, IsTrue};
 ghost use Rattle.wasmprinter_spec.specs.Grammar.{value_with_place};
 ghost use Rattle.wasmprinter_spec.specs.Binary.Tables.{table_by, table as table_grammar};
 ghost use Rattle.wasmprinter_spec.specs.Sections.{TableSection};
-ghost use Rattle.wasmprinter_bytes.specs.Lists.{Takes, reader};
+ghost use Rattle.wasmprinter_bytes.specs.Lists.{DecodesWithAllocation, reader};
 ghost use Rattle.wasmprinter_decoder.specs.Growing.{TableGrows};
 ghost use Rattle.wasmprinter_decoder.specs.Contents.{DecodesContent};
 ghost use Rattle.wasmprinter_decoder.specs.Tables.{FindsEmpty};
@@ -68,7 +68,7 @@ impl<'a> GrownIn<'a> for Table<'a> {
 impl<'a> Table<'a> {
     /// Reads the two bytes before a table with an initialiser, a table type, and the initialiser.
     fn read_initialised(alloc: Global, cursor: &mut Cursor<'a>) -> Result<Self, Error>
-        ensures { Takes (λ t. t) (reader (value_with_place (table_by 0x40)).parse TableGrows) cursor.old result cursor.new }
+        ensures { DecodesWithAllocation (λ t. t) (reader (value_with_place (table_by 0x40)).parse TableGrows) cursor.old result cursor.new }
     {
         let place = cursor.place();
         read_only(cursor, WITH_INIT)?;

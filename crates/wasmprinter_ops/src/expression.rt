@@ -4,7 +4,7 @@ ghost use Rattle.std.specs.Prelude.{◌≡◌, ◌↔◌, ◌<◌, ◌≤◌, �
 ghost use Rattle.wasmprinter_spec.specs.Instructions.{expression, roles};
 ghost use Rattle.wasmprinter_spec.specs.Nesting.{Nests, Sequence};
 ghost use Rattle.wasmprinter_bytes.specs.Reads.{end_of};
-ghost use Rattle.wasmprinter_bytes.specs.Lists.{Takes, reader};
+ghost use Rattle.wasmprinter_bytes.specs.Lists.{DecodesWithAllocation, reader};
 ghost use Rattle.wasmprinter_ops.specs.Operators.{SkipsOperators, ReachesBlock};
 
 use crate::open_blocks::{Blocks, Step};
@@ -108,7 +108,7 @@ impl<'a> Expression<'a> {
     ///
     /// No other error is returned.
     pub fn read(alloc: Global, cursor: &mut Cursor<'a>) -> Result<Self, Error>
-        ensures { Takes (λ e. e) (reader expression.parse ReachesBlock) cursor.old result cursor.new }
+        ensures { DecodesWithAllocation (λ e. e) (reader expression.parse ReachesBlock) cursor.old result cursor.new }
     {
         let start = cursor.fork();
         let end = skip_operators(alloc, cursor)?;

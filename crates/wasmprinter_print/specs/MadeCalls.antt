@@ -1,5 +1,5 @@
 -- The calls that generic code makes for a layout: all of them, or a prefix up to a failed call or a failed
--- allocation. The order of what is passed is: meaning, state before, state after, result, calls. `Does`, `Asks`,
+-- allocation. The order of what is passed is: meaning, state before, state after, result, calls. `MakesCall`, `AsksPrinter`,
 -- `Succeeded`, `Failed` and `Run` take their calls between the states.
 use Rattle.std.specs.Prelude.{◌≡◌, ℕ, Bool, true, false, List, [], ◌∷◌, ◌++◌, Result, Ok, Err}
 use Rattle.std.specs.declared.io.Error.{Error as IoError}
@@ -8,17 +8,17 @@ use Rattle.wasmprinter_spec.specs.Meaning.{Meaning, Run, Succeeded, Failed}
 use Rattle.wasmprinter_bytes.specs.declared.library_error.Error.{Error}
 use Rattle.wasmprinter_bytes.specs.declared.library_error.Error.TheVariants.{Printer}
 
--- `Does m old call new result`: the call was made in the state `old` and left `new`. It succeeded if `result` is `Ok`,
+-- `MakesCall m old call new result`: the call was made in the state `old` and left `new`. It succeeded if `result` is `Ok`,
 -- with any value, and otherwise failed with this error.
-abbrev pub Does : {P T : Type 0} → Meaning P → P → Call → P → Result T IoError → Type 0
-Does m old call new (Ok x) = Succeeded m old call new
-Does m old call new (Err e) = Failed m old call e new
+abbrev pub MakesCall : {P T : Type 0} → Meaning P → P → Call → P → Result T IoError → Type 0
+MakesCall m old call new (Ok x) = Succeeded m old call new
+MakesCall m old call new (Err e) = Failed m old call e new
 
--- `Asks m old question new result`: the call `question answer` was made and succeeded if `result` is `Ok answer`.
+-- `AsksPrinter m old question new result`: the call `question answer` was made and succeeded if `result` is `Ok answer`.
 -- Otherwise the call failed with this error, whatever the answer would have been.
-abbrev pub Asks : {P T : Type 0} → Meaning P → P → (T → Call) → P → Result T IoError → Type 0
-Asks m old question new (Ok answer) = Succeeded m old (question answer) new
-Asks {P} {T} m old question new (Err e) = (answer : T) → Failed m old (question answer) e new
+abbrev pub AsksPrinter : {P T : Type 0} → Meaning P → P → (T → Call) → P → Result T IoError → Type 0
+AsksPrinter m old question new (Ok answer) = Succeeded m old (question answer) new
+AsksPrinter {P} {T} m old question new (Err e) = (answer : T) → Failed m old (question answer) e new
 
 -- All calls of the layout were made and succeeded, up to how text is split into calls.
 pub record Whole {P : Type 0} (m : Meaning P) (old new : P) (layout : List Call) : Type 0 where

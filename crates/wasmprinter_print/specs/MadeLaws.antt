@@ -5,7 +5,7 @@ use Rattle.std.proofs.lemmas.List.{map-append}
 use Rattle.std.specs.declared.io.Error.{Error as IoError}
 use Rattle.wasmprinter_spec.specs.Call.{Call, Text, calls_of_bytes, atoms}
 use Rattle.wasmprinter_spec.specs.Meaning.{Meaning, Run, Succeeded, Failed}
-use Rattle.wasmprinter_print.specs.MadeCalls.{Does, MadeCalls, StillToMake, Calls, Ending, Through, AtCall, Stopped, Never, Whole, Broken, Interrupted, ending}
+use Rattle.wasmprinter_print.specs.MadeCalls.{MakesCall, MadeCalls, StillToMake, Calls, Ending, Through, AtCall, Stopped, Never, Whole, Broken, Interrupted, ending}
 
 -- The atoms of two concatenated lists of calls are the atoms of the first followed by those of the second.
 pub atoms-append : (k l : List Call) → atoms (k ++ l) ≡ atoms k ++ atoms l
@@ -111,7 +111,7 @@ call_fails m {a} {t} (Err y) e {c} f v = record {
 }
 
 -- A call with its result is a layout of one call.
-pub does : {P : Type 0} (m : Meaning P) {a t : P} (r : Result (Unit {0}) IoError) (c : Call) → Does m a c t r → MadeCalls m a t (ending r) (c ∷ [])
+pub does : {P : Type 0} (m : Meaning P) {a t : P} (r : Result (Unit {0}) IoError) (c : Call) → MakesCall m a c t r → MadeCalls m a t (ending r) (c ∷ [])
 does m (Ok x) c v = called m v
 does m (Err e) c v = call_fails {U = Unit {0}} m (Err e) e refl v
 

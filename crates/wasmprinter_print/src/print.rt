@@ -2,7 +2,7 @@
 ghost use Rattle.std.specs.Prelude.{◌≡◌, Bool, [], ◌∷◌};
 ghost use Rattle.wasmprinter_spec.specs.Call.{Text, Newline, Line, Start, Claim, Literal, Name, Keyword, TypeName, Comment, Reset};
 ghost use Rattle.wasmprinter_spec.specs.Meaning.{Meaning, Succeeded};
-ghost use Rattle.wasmprinter_print.specs.MadeCalls.{Does, Asks, MadeCalls, ending};
+ghost use Rattle.wasmprinter_print.specs.MadeCalls.{MakesCall, AsksPrinter, MadeCalls, ending};
 
 use std::io;
 
@@ -12,8 +12,8 @@ use std::io;
 /// state after a failure. All printing code is proved against this meaning. Printing stops at the first call that
 /// fails, and returns that call's error.
 ///
-/// `Does meaning old call new result` says that the meaning allows this result of the call in the state `old`, with the
-/// state `new` after it. A failure is counted if the meaning counts failures. `Asks` says the same of a call that
+/// `MakesCall meaning old call new result` says that the meaning allows this result of the call in the state `old`, with the
+/// state `new` after it. A failure is counted if the meaning counts failures. `AsksPrinter` says the same of a call that
 /// returns an answer, `Succeeded` of one that cannot fail.
 pub trait Print {
     /// The meaning of the calls: the state that each call leaves, when it may fail, and the state after a failure.
@@ -27,7 +27,7 @@ pub trait Print {
     /// # Errors
     /// - The printer's error. Printing stops and returns it.
     fn write_str(&mut self, s: &str) -> io::Result<()>
-        ensures { Does meaning self.old (Text s.now) self.new result };
+        ensures { MakesCall meaning self.old (Text s.now) self.new result };
 
     /// Writes a run of characters of a quoted string. Printing calls it only if [`Print::takes_runs`] returns `true`.
     /// The default body makes one call of [`Print::write_str`] for each character. By the contract (`MadeCalls`), any
@@ -59,7 +59,7 @@ pub trait Print {
     /// # Errors
     /// - The printer's error. Printing stops and returns it.
     fn newline(&mut self) -> io::Result<()>
-        ensures { Does meaning self.old Newline self.new result };
+        ensures { MakesCall meaning self.old Newline self.new result };
 
     /// Starts a line. `binary_offset` is the place of the line: a byte offset from the start of the module, or
     /// `None` if the line shows nothing of the module.
@@ -77,49 +77,49 @@ pub trait Print {
         binary_offset: u64,
         bytes: &[u8],
     ) -> io::Result<bool>
-        ensures { Asks meaning self.old (Claim name.now binary_offset bytes.now) self.new result };
+        ensures { AsksPrinter meaning self.old (Claim name.now binary_offset bytes.now) self.new result };
 
     /// Starts the style of numbers and strings.
     ///
     /// # Errors
     /// - The printer's error. Printing stops and returns it.
     fn start_literal(&mut self) -> io::Result<()>
-        ensures { Does meaning self.old (Start Literal) self.new result };
+        ensures { MakesCall meaning self.old (Start Literal) self.new result };
 
     /// Starts the style of the names and indices of items.
     ///
     /// # Errors
     /// - The printer's error. Printing stops and returns it.
     fn start_name(&mut self) -> io::Result<()>
-        ensures { Does meaning self.old (Start Name) self.new result };
+        ensures { MakesCall meaning self.old (Start Name) self.new result };
 
     /// Starts the style of keywords.
     ///
     /// # Errors
     /// - The printer's error. Printing stops and returns it.
     fn start_keyword(&mut self) -> io::Result<()>
-        ensures { Does meaning self.old (Start Keyword) self.new result };
+        ensures { MakesCall meaning self.old (Start Keyword) self.new result };
 
     /// Starts the style of types.
     ///
     /// # Errors
     /// - The printer's error. Printing stops and returns it.
     fn start_type(&mut self) -> io::Result<()>
-        ensures { Does meaning self.old (Start TypeName) self.new result };
+        ensures { MakesCall meaning self.old (Start TypeName) self.new result };
 
     /// Starts the style of comments.
     ///
     /// # Errors
     /// - The printer's error. Printing stops and returns it.
     fn start_comment(&mut self) -> io::Result<()>
-        ensures { Does meaning self.old (Start Comment) self.new result };
+        ensures { MakesCall meaning self.old (Start Comment) self.new result };
 
     /// Ends the current style: the text after it has none.
     ///
     /// # Errors
     /// - The printer's error. Printing stops and returns it.
     fn reset_color(&mut self) -> io::Result<()>
-        ensures { Does meaning self.old (Start Reset) self.new result };
+        ensures { MakesCall meaning self.old (Start Reset) self.new result };
 
     /// Returns whether the text that is passed to this printer may contain ANSI escape sequences. If not, the text of
     /// folded operators has no styles.

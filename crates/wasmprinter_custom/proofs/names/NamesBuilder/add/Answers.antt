@@ -2,16 +2,16 @@ use Rattle.std.proofs.Common.{refl, ap, ◌∙◌, not}
 use Rattle.std.specs.Prelude.{Some, [], ℕ, List}
 use Rattle.wasmprinter_spec.specs.Names.Section.{Entry}
 use Rattle.wasmprinter_spec.specs.Names.Content.{entries_in}
-use Rattle.wasmprinter_custom.specs.Holds.{names_given}
+use Rattle.wasmprinter_custom.specs.HoldsEntries.{names_given}
 use Rattle.wasmprinter_custom.specs.declared.names.Given.{Given}
-use Rattle.wasmprinter_custom.proofs.Adding.{Holds-entry, keeps_of_labels}
+use Rattle.wasmprinter_custom.proofs.Adding.{HoldsEntries-entry, keeps_of_labels}
 use Rattle.wasmprinter_custom.proofs.names.NamesBuilder.add.Goals as goal
 
 pub returns : goal.returns
 returns c = λ entries h.
     let e : Entry = record { subsection = c.args.subsection; outer = c.args.outer; index = c.args.index; name = c.args.name.now } in
     let given : Given = record { subsection = c.args.subsection; outer = c.args.outer; name = c.args.name } in
-    Holds-entry entries c.args.self.now _
+    HoldsEntries-entry entries c.args.self.now _
     e given (record { subsection = c.args.subsection; outer = c.args.outer; index = c.args.index })
     (record { given = c.args.name; marked = c.in_ok-marked.marked })
     (refl, refl, refl) (refl, refl, refl) c.in_ok-is_new.ensures.updates c.in_ok-insert.ensures.gains

@@ -6,7 +6,7 @@ use Rattle.wasmprinter_spec.specs.Customs.{name_section}
 use Rattle.wasmprinter_spec.specs.ModuleNames.{name_entries}
 use Rattle.wasmprinter_spec.specs.Names.Section.{Entry}
 use Rattle.wasmprinter_decoder.specs.Places.{after_view}
-use Rattle.wasmprinter_custom.specs.Holds.{Holds}
+use Rattle.wasmprinter_custom.specs.HoldsEntries.{HoldsEntries}
 use Rattle.wasmprinter_decoder.proofs.Naming.{Naming, naming_none, naming_other, naming_read, naming_nothing, naming_done}
 use Rattle.wasmprinter_decoder.proofs.module.Module.names.Goals.{then-is_name_section+in_ok-read_names, else-is_name_section}
 use Rattle.wasmprinter_decoder.proofs.module.Module.names.Goals as goal
@@ -55,5 +55,5 @@ returns-in_err-finish-clause-succeeds c nameless =
     let past : length c.args.self.now.customs ≤ c.loop-custom.custom-index = omega (arith, c.loop-custom-test.false, ap length c.customs-custom-items.ensures) in
     let none : drop c.loop-custom.custom-index c.args.self.now.customs ≡ [] = drop_of_length-le c.args.self.now.customs past in
     let kept = naming_done c.args.self.now.customs c.loop-custom.custom-index c.loop-custom.builder none c.loop-custom.invariant in
-    let ok = c.in_err-finish.ensures.succeeds (subst (λ (es : List Entry). Holds es c.loop-custom.builder) nameless kept) in
+    let ok = c.in_err-finish.ensures.succeeds (subst (λ (es : List Entry). HoldsEntries es c.loop-custom.builder) nameless kept) in
     absurd cc

@@ -13,6 +13,6 @@ names_given given [] = given
 names_given given (e ∷ entries) = names_given (e.name ∷ given) entries
 
 -- The store records which names were given, and for each item the name that its last entry gives.
-pub record Holds (entries : List Entry) (b : NamesBuilder) : Type 0 where
+pub record HoldsEntries (entries : List Entry) (b : NamesBuilder) : Type 0 where
   pub given : (q : Given) → contains given_cmp b.given q ≡ is_among q.name.now (names_given [] (entries_in q.subsection q.outer entries))
   pub names : (s outer index : ℕ) → name_at (items_view b.names) s outer index ≡ name_of entries s outer index
