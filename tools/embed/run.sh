@@ -68,11 +68,24 @@ expect_printer() {
     expect 1 '' "$1: components are not supported\n" "$2" component.wasm
 }
 
+# reading FILE COMMAND: runs a command with the file as its standard input.
+reading() {
+    "$2" <"$1"
+}
+
+keyword_style='\033[0m\033[1m\033[38;5;11m'
+name_style='\033[0m\033[35m'
+no_style='\033[0m'
+
 # expect_example PATH COMMAND: checks the program of a file of bindings/c or bindings/cpp.
 expect_example() {
     case $1 in
     */example.*) expect_printer example "$2" ;;
     */preview.c) expect 0 '(module)\n(9 of 9 bytes)\n' '' "$2" ;;
+    */color.c)
+        expect 0 "(${keyword_style}module$no_style\n  (${keyword_style}type $no_style$name_style(;0;)$no_style (${keyword_style}func$no_style))\n)\n" '' reading example.wasm "$2"
+        expect 1 '' 'color: component\n' reading component.wasm "$2"
+        ;;
     *) fail "no output is typed for $1" ;;
     esac
 }
