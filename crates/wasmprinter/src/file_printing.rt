@@ -10,11 +10,12 @@ use std::alloc::Global;
 use std::path::Path;
 use wasmprinter_bytes::Error;
 
-/// Returns the text of the module in a file, with the default options. The text is that of the bytes that the
-/// source returns for exactly this path.
+/// Returns the text of the module in a file, with the default options. The text is that of bytes that the source may
+/// return for exactly this path (`S.may_read`).
 ///
 /// The text is that of [`print_bytes`], with the same promises under the same conditions. No contract says what a file
-/// of the system contains. For these files the contract says only that the text is that of some bytes.
+/// of the system contains. For these files the contract says only that the text is that of some bytes, and that an
+/// error is `Unreadable` or one of [`print_bytes`] for some bytes.
 ///
 /// If `module.wasm` has the bytes of a module without fields:
 ///
@@ -25,7 +26,8 @@ use wasmprinter_bytes::Error;
 ///
 /// # Errors
 ///
-/// - `Unreadable`: the file can't be read. If an allocation fails during reading, this error is returned too.
+/// - `Unreadable`: the source could not read the file. Tests show that this is also the error if an allocation fails
+///   while a file of the system is read.
 /// - The errors of [`print_bytes`] for the bytes of the file.
 pub fn print_file<S: Source>(source: &S, alloc: Global, file: Path<'_>) -> Result<String, Error>
     ensures printed { IfOk result (λ text. IsTextOfFile (S.may_read source.now (path_bytes file.entry)) (string_bytes text)) }

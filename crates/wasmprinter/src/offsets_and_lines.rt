@@ -16,15 +16,17 @@ use wasmprinter_writers::{LineStart, LineTracker, OffsetsAndLines};
 impl Config {
     /// Appends the text of a module in the binary format to `storage`, and returns where its lines begin.
     ///
-    /// A [`LineStart`] holds the line's place, a byte offset from the start of the module, and the byte offset in
-    /// `storage` of the line's first byte. [`OffsetsAndLines::new`] makes an iterator over the lines from
-    /// `storage` and the line starts; [`Config::offsets_and_lines`] does both steps. The old text of `storage`
-    /// stays before the first line. The lines, joined, are the text that [`Config::print_to_string`] returns (`lines`).
-    /// The line starts do not decrease, and each is at a character boundary of `storage` (`boundaries`).
+    /// A [`LineStart`] holds the line's place, a byte offset from the start of the module or `None` if the line shows
+    /// nothing of the module, and the byte offset in `storage` of the line's first byte. [`OffsetsAndLines::new`] makes
+    /// an iterator over the lines from `storage` and the line starts; [`Config::offsets_and_lines`] does both steps.
+    /// The old text of `storage` stays before the first line. The lines, joined, are the text that
+    /// [`Config::print_to_string`] returns (`lines`). The line starts do not decrease, and each is at a character
+    /// boundary of `storage` (`boundaries`).
     ///
-    /// If `skeleton` and folding are off, each function has a line for its header, one for its locals, if it has any,
-    /// and one for each of its operators, in this order (`lines`). The place of the header is the first byte of the
-    /// function's body. Only lines of branch hints come between them. Each is the only line with its place.
+    /// If `skeleton` and folding are off, each defined function has a line for its header, one for its locals, if it has
+    /// any, and one for each of its operators except the last `end`, in this order (`lines`). Their places are the first
+    /// bytes of the body, of the first entry that declares a local, and of the operator. No other line has one of these
+    /// places. Only lines of branch hints come between.
     ///
     /// Unlike the contract of [`Config::offsets_and_lines`], the contract of this method says what `storage` holds
     /// after an error.
@@ -33,7 +35,7 @@ impl Config {
     ///
     /// The errors of [`Config::print_to_string`]. `storage` keeps its old text, and gains this after it (`left`):
     ///
-    /// - `Memory`: possibly a prefix of the text of the module.
+    /// - `Memory`: possibly a prefix of the text of the module, which may end within a line.
     /// - `DylinkSubsection`: the text before that `dylink.0` section.
     /// - Any other error: nothing.
     pub fn print_with_line_starts(

@@ -92,7 +92,7 @@ impl Decode for Hint {
 }
 
 impl Hint {
-    /// Returns the place of the first byte: a byte offset from the start of the module.
+    /// Returns the place of the hint's first byte, in the custom section: a byte offset from the start of the module.
     pub fn place(&self) -> u64
         ensures { result ≡ self.now.place }
     {

@@ -60,7 +60,7 @@ impl<'a> Custom<'a> {
         self.place
     }
 
-    /// Returns the name.
+    /// Returns the section's name.
     pub fn name(&self) -> &'a str
         ensures { result.now ≡ self.now.value.name }
     {

@@ -220,8 +220,10 @@ impl<'n, 'a> OpenLabels<'n, 'a> {
         }
     }
 
-    /// Returns the meaning of a label index in an operator with the role: how it is printed, by the identifier of its
-    /// block or by its number. For `delegate` the innermost block is not counted, but its label still shadows others.
+    /// Returns the meaning of a label index in an operator with the role, among the blocks that are open before it:
+    /// `ByName` for a block with an identifier, `ByNumber` if an inner block shadows this identifier, `ToBlock` for a
+    /// block without one, `ByNumber` also for the body, and `ToNothing` if the index is greater. For `delegate` the
+    /// innermost block is not counted, but its label still shadows others.
     pub fn find(&self, role: Role, label: u32) -> LabelRef<'n>
         ensures { found_view result ≡ found_at (role_view role) self.now label }
     {

@@ -33,9 +33,10 @@ pub fn nested_operators_have_trees()
     ensures only { TreesAreNested }
 {}
 
-/// Unfolding the nodes of a tree whose operators have the roles that their positions require gives all operators of
-/// the tree in their flat order, whatever numbers of operands they were folded by. Of an `end`, the nodes record only
-/// that it is one. By [`trees_say_their_lists`], the tree of any list of operators has these roles.
+/// Take a tree whose operators have the roles that their positions require, with any numbers of operands and results.
+/// Unfolding the nodes into which it folds gives its operators in their flat order: each with its place, word,
+/// immediates and hint, but of an `end` only that there is one. By [`trees_say_their_lists`], the tree of any list of
+/// operators has these roles.
 pub fn folding_loses_nothing()
     ensures { UnfoldingRule }
 {}

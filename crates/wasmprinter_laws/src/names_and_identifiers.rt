@@ -31,8 +31,8 @@ pub fn name_sections_give_entries()
 {}
 
 /// If the entries of name sections have indices of 32 bits and names in UTF-8, no identifier means two items of one
-/// index space, two locals of one function or two fields of one type. If two labels of a function have the same
-/// identifier, and one block may be within the other, both were given the same name. This holds for indices and nesting
+/// index space, two locals of one function or two fields of one type. If two labels of a function, whose blocks are at
+/// different nesting depths, have the same identifier, both were given the same name. This holds for indices and nesting
 /// depths below 2^64, and whether identifiers are synthesized for items without names or not.
 pub fn identifiers_are_apart()
     ensures { IdentifiersAreApart }

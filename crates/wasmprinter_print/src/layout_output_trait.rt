@@ -110,7 +110,8 @@ pub trait Output {
     fn begin_line(&mut self)
         ensures { begins self.old self.new };
 
-    /// Opens a group. Returns whether a line had begun in the group around it, which [`Output::leave_group`] needs.
+    /// Records that a group was opened, and writes nothing. Returns whether a line had begun in the group around it,
+    /// which [`Output::leave_group`] needs.
     fn enter_group(&mut self) -> bool
         ensures { opened self.old self.new result };
 

@@ -12,9 +12,9 @@ use std::io;
 /// state after a failure. All printing code is proved against this meaning. Printing stops at the first call that
 /// fails, and returns that call's error.
 ///
-/// `MakesCall meaning old call new result` says that the meaning allows this result of the call in the state `old`, with the
-/// state `new` after it. A failure is counted if the meaning counts failures. `AsksPrinter` says the same of a call that
-/// returns an answer, `Succeeded` of one that cannot fail.
+/// `MakesCall meaning old call new result` says that the meaning allows this result of the call in the state `old`, with
+/// the state `new` after it. A failure is counted if the meaning counts failures. `AsksPrinter` says the same of a call
+/// that returns an answer, `Succeeded` of one that cannot fail.
 pub trait Print {
     /// The meaning of the calls: the state that each call leaves, when it may fail, and the state after a failure.
     ghost meaning: { Meaning Self };
@@ -79,7 +79,8 @@ pub trait Print {
     ) -> io::Result<bool>
         ensures { AsksPrinter meaning self.old (Claim name.now binary_offset bytes.now) self.new result };
 
-    /// Starts the style of numbers and strings.
+    /// Starts the style of literals: of constants, strings and limits. The style lasts until another one starts, or until
+    /// [`Print::reset_color`]. Styles are not nested.
     ///
     /// # Errors
     /// - The printer's error. Printing stops and returns it.

@@ -119,8 +119,8 @@ fn write_declaration<O: Output>(out: &mut O, identifier: Option<Identifier<'_>>,
     end_style(out);
 }
 
-/// Writes an index in the style of names: the identifier of the item, or its number in decimal for `None`. `number` is
-/// not used if there is an identifier.
+/// Writes an index in the style of names: the identifier of the item, without its annotation, or its number in decimal
+/// for `None`. `number` is not used if there is an identifier.
 #[tactic(auto, unfolding(wasmprinter_spec::specs::Layout::Identifiers::index_pieces))]
 pub fn write_index<O: Output>(out: &mut O, identifier: Option<Identifier<'_>>, number: u64)
     ensures { O.wrote out.old out.new

@@ -79,7 +79,8 @@ pub(crate) fn hexadecimal_len(n: u64) -> usize
     hexadecimal_len(n / HEXADECIMAL) + 1
 }
 
-/// Writes a number between two texts, in hexadecimal as [`write_hexadecimal`] does.
+/// Writes a number between two texts, in hexadecimal as [`write_hexadecimal`] does: in lower case, without a prefix and
+/// without leading zeros.
 pub fn write_hexadecimal_between<O: Output>(out: &mut O, before: &str, n: u64, after: &str)
     ensures { O.called out.old out.new (Text (before.now ++ (digits 16 false n ++ after.now)) ∷ []) }
 {

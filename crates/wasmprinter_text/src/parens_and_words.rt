@@ -25,7 +25,8 @@ pub(crate) fn write_two_in_style<O: Output>(out: &mut O, style: Style, first: &s
     out.reset_color();
 }
 
-/// Opens a group: writes a parenthesis without a style, then the keyword in the style of keywords.
+/// Writes the start of a group: a parenthesis without a style, then the keyword in the style of keywords. If a line may
+/// begin in the group, a call of `Output::enter_group` has to follow.
 pub fn open_group<O: Output>(out: &mut O, keyword: &str)
     ensures { O.wrote out.old out.new (Open keyword.now ∷ []) }
 {
@@ -33,7 +34,7 @@ pub fn open_group<O: Output>(out: &mut O, keyword: &str)
     write_in_style(out, Style::Keyword, keyword);
 }
 
-/// Opens a group as [`open_group`] does, and writes a space after its keyword in the same style.
+/// Writes the start of a group as [`open_group`] does, and a space after its keyword in the same style.
 pub fn open_group_space<O: Output>(out: &mut O, keyword: &str)
     ensures { O.wrote out.old out.new (OpenSpace keyword.now ∷ []) }
 {
@@ -41,7 +42,7 @@ pub fn open_group_space<O: Output>(out: &mut O, keyword: &str)
     write_two_in_style(out, Style::Keyword, keyword, " ");
 }
 
-/// Opens a group whose keyword has no style: writes a parenthesis and the text `unstyled`.
+/// Writes the start of a group whose keyword has no style: a parenthesis and the text `unstyled`.
 pub fn open_plain<O: Output>(out: &mut O, unstyled: &str)
     ensures { O.wrote out.old out.new (OpenPlain unstyled.now ∷ []) }
 {
@@ -49,8 +50,8 @@ pub fn open_plain<O: Output>(out: &mut O, unstyled: &str)
     out.write_str(unstyled);
 }
 
-/// Opens a group whose keyword is the word of a type: writes a parenthesis without a style, then the keyword and a
-/// space in the style of types.
+/// Writes the start of a group whose keyword is the word of a type: a parenthesis without a style, then the keyword and
+/// a space in the style of types.
 pub fn open_type_space<O: Output>(out: &mut O, keyword: &str)
     ensures { O.wrote out.old out.new (OpenTypeSpace keyword.now ∷ []) }
 {
@@ -58,7 +59,8 @@ pub fn open_type_space<O: Output>(out: &mut O, keyword: &str)
     write_two_in_style(out, Style::TypeName, keyword, " ");
 }
 
-/// Opens a group without a keyword: writes a parenthesis without a style, then an empty text in the style of keywords.
+/// Writes the start of a group without a keyword: a parenthesis without a style, then an empty text in the style of
+/// keywords.
 pub fn open_without_keyword<O: Output>(out: &mut O)
     ensures { O.wrote out.old out.new (OpenUnnamed ∷ []) }
 {

@@ -143,11 +143,16 @@ pub fn write_bytes<P: Print>(p: &mut P, bytes: &[u8]) -> Result<(), Error>
     write_value(p, &Bytes { bytes })
 }
 
-/// Writes a 32-bit float, given its bits, in the text format (section 6.3 of the standard, "Floating-Point"). A
-/// finite number is written in hexadecimal, so that the text has exactly its value. A NaN is written with its
-/// payload unless that is the canonical one. The sign has no style, the rest has the style of literals. After infinity
-/// and NaN come a space and `(;=inf;)`, `(;=-inf;)` or `(;=NaN;)` in the style of comments. On `Ok`, all calls for the
-/// value were made and succeeded, up to how text is split into calls.
+/// Writes a 32-bit float, given its bits, in the text format (section 6.3 of the standard, "Floating-Point").
+///
+/// A finite number is written in hexadecimal with exactly its value: `0x1`, a point, the digits up to the last that is
+/// not 0, and the exponent of 2 (`0x1.8p+0`). Without digits there is no point (`0x1p-126`), except in subnormal
+/// numbers (`0x1.p-149`). Zero is `0x0p+0`. The others are `inf`, `nan` for the canonical payload, and `nan:0x..` with
+/// any other, each with a space and a comment after it: `(;=inf;)`, `(;=-inf;)` if negative, or `(;=NaN;)`.
+///
+/// If the sign bit is set, `-` comes first, also before `nan`, before any style is chosen. The number and the space have
+/// the style of literals, the comment that of comments. On `Ok`, all calls for the value were made and succeeded, up to
+/// how text is split into calls.
 ///
 /// # Errors
 ///

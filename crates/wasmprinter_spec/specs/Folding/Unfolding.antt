@@ -44,7 +44,7 @@ unfold_at (Within x) _ = []
 abbrev pub unfolding_of : Nodes → List Told
 unfolding_of f = unfold_at Elsewhere f
 
--- The tree of code unfolds to the operators of the code, whatever numbers of operands the operators are said to
--- take.
+-- The nodes of code unfold to its operators, whatever numbers of operands and results the operators have. Of an `end`,
+-- both sides say only that it is one.
 abbrev pub UnfoldingRule : Type 0
 UnfoldingRule = (code : NestedCode) → IsFit code → unfolding_of (tree code) ≡ told_of (flat code)
