@@ -21,7 +21,7 @@ STATUSES = {
     "DYLINK_SUBSECTION": (r"^\| #, `dylink.0` \|",),
     "UNREADABLE": (r"^Status # \(the file",),
     "TOO_LONG": (r"^\| #, too long",),
-    "MEMORY": (r"^\| #, out of memory", r"\| status # \(", "Status # may also", r"the status \(#\) and \[what it leaves"),
+    "MEMORY": (r"^\| #, out of memory", r"for C \(status #\)", "Status # may also", r"the status \(#\) and \[what it leaves"),
     "INVALID_INDENT": (r"^\| #, the indent", r"not UTF-8 \(#\)", "It is # exactly if the indent", "status except #", "statuses 0 and #"),
     "UNKNOWN_OPTION": (r"^\| #, unknown options", "status is # exactly if the flags", r"status is not # \|", r"unknown bit \(#\)", "older library returns status #"),
 }
