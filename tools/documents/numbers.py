@@ -17,13 +17,13 @@ NUMBER = rf"(?P<number>\d[\d,]*(?<!,)|(?i:{'|'.join(WORDS)}))"
 
 # Patterns of sentences about the statuses of the library for C, by their names in the header
 STATUSES = {
-    "COMPONENT": (r"component \(status #\)", "status is # exactly if the bytes are marked as a component"),
+    "COMPONENT": ("status is # exactly if the bytes are marked as a component",),
     "DYLINK_SUBSECTION": (r"^\| #, `dylink.0` \|",),
     "UNREADABLE": (r"^Status # \(the file",),
     "TOO_LONG": (r"^\| #, too long",),
     "MEMORY": (r"^\| #, out of memory", r"\| status # \(", "Status # may also", "the status is #, and the buffer is unchanged"),
-    "INVALID_INDENT": (r"^\| #, the indent", r"not UTF-8 \(#\)", "It is # exactly if the indent", "status except #", "statuses 0 and #"),
-    "UNKNOWN_OPTION": (r"^\| #, unknown options", "status is # exactly if the flags", r"status is not # \|", r"unknown bit \(#\)", "older library returns status #"),
+    "INVALID_INDENT": (r"^\| #, the indent", "It is # exactly if the indent", "status except #", "statuses 0 and #"),
+    "UNKNOWN_OPTION": (r"^\| #, unknown options", "status is # exactly if the flags", r"status is not # \|", "older library returns status #"),
 }
 
 
