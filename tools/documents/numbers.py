@@ -129,7 +129,6 @@ def of_definitions(tree):
         ("the # sequences need", 2 + 2 * colors),
         ("the # ANSI escape sequences,", 2 + 2 * colors),
         ("There are # colors", colors),
-        ("the # style calls", styles),
         ("printer's # styles", styles - 1),  # without the one that ends a style
         (r"\[# conditions\]\(", items(tree, "docs/GUARANTEES.md", "When a text reads back")),
         (r"\[# conditions\]\(", items(tree, "README.md", "What reads back")),
