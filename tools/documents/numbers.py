@@ -17,13 +17,13 @@ NUMBER = rf"(?P<number>\d[\d,]*(?<!,)|(?i:{'|'.join(WORDS)}))"
 
 # Patterns of sentences about the statuses of the library for C, by their names in the header
 STATUSES = {
-    "COMPONENT": (r"component \(status #\)", "status is # exactly if the bytes are marked as a component"),
+    "COMPONENT": ("status is # exactly if the bytes are marked as a component",),
     "DYLINK_SUBSECTION": (r"^\| #, `dylink.0` \|",),
     "UNREADABLE": (r"^Status # \(the file",),
     "TOO_LONG": (r"^\| #, too long",),
     "MEMORY": (r"^\| #, out of memory", r"for C \(status #\)", "Status # may also", r"the status \(#\) and \[what it leaves"),
-    "INVALID_INDENT": (r"^\| #, the indent", r"not UTF-8 \(#\)", "It is # exactly if the indent", "status except #", "statuses 0 and #"),
-    "UNKNOWN_OPTION": (r"^\| #, unknown options", "status is # exactly if the flags", r"status is not # \|", r"unknown bit \(#\)", "older library returns status #"),
+    "INVALID_INDENT": (r"^\| #, the indent", "It is # exactly if the indent", "status except #", "statuses 0 and #"),
+    "UNKNOWN_OPTION": (r"^\| #, unknown options", "status is # exactly if the flags", r"status is not # \|", "older library returns status #"),
 }
 
 
@@ -129,7 +129,6 @@ def of_definitions(tree):
         ("the # sequences need", 2 + 2 * colors),
         ("the # ANSI escape sequences,", 2 + 2 * colors),
         ("There are # colors", colors),
-        ("the # style calls", styles),
         ("printer's # styles", styles - 1),  # without the one that ends a style
         (r"\[# conditions\]\(", items(tree, "docs/GUARANTEES.md", "When a text reads back")),
         (r"\[# conditions\]\(", items(tree, "README.md", "What reads back")),
