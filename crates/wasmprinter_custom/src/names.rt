@@ -169,8 +169,11 @@ impl<'a> NamesBuilder<'a> {
         Ok(())
     }
 
-    /// Returns the names that were added, each with the identifier for it (`names`). If entries give several names to
-    /// an item, the last one counts.
+    /// Returns the names that were added, each with its identifier (`names`). If entries give several names to an item,
+    /// the last one counts. The identifier is the name, or `#`, the word for the items of the space, the index, a space
+    /// and the name (`#func3 f`) if the name is empty, begins with `#` or, except for modules and labels, was added
+    /// before in the same space. After a failed [`read_names`](crate::read_names) the contract says nothing of the
+    /// names.
     ///
     /// # Errors
     ///

@@ -149,7 +149,7 @@ impl<'a> Import<'a> {
 ///
 /// - `Malformed` if the bytes do not encode a list of imports and nothing after it, with a place as
 ///   [`Error::Malformed`](wasmprinter_bytes::Error::Malformed) describes it.
-/// - `Memory` if an allocation fails.
+/// - `Memory` if an allocation fails, which happens only if the bytes begin with a count above zero.
 pub fn read_imports<'a>(alloc: Global, cursor: &mut Cursor<'a>) -> Result<Vec<Import<'a>>, Error>
     ensures { DecodesContent ImportSection (λ v. v.items) cursor.old result }
 {

@@ -126,14 +126,15 @@ fn empty_table(tables: &[Table]) -> Option<u64>
 }
 
 /// Reads the content of a table section. On `Ok`, the result is the value that the grammar gives for all
-/// remaining bytes.
+/// remaining bytes, and no initialiser is empty.
 ///
 /// # Errors
 ///
 /// - `Malformed` if the bytes do not encode a list of tables and nothing after it, with a place as
 ///   [`Error::Malformed`](wasmprinter_bytes::Error::Malformed) describes it.
-/// - `EmptyTableInit` if the initialiser of a table has no operators, with the place of the first such table.
-/// - `Memory` if an allocation fails.
+/// - `EmptyTableInit` if the initialiser of a table has no operators. If the bytes encode a list of tables, the place is
+///   that of the first such table.
+/// - `Memory` if an allocation fails, which happens only if the bytes begin with a count above zero.
 pub fn read_tables<'a>(alloc: Global, cursor: &mut Cursor<'a>) -> Result<Vec<Table<'a>>, Error>
     ensures { DecodesContent TableSection (λ v. v.items) cursor.old result }
 {

@@ -29,9 +29,11 @@ pub fn bodies_lie_apart()
     ensures { BodiesLieApart }
 {}
 
-/// If bytes encode a module, its bodies are printed flat and no `dylink.0` section is refused, the header of each
-/// function, its locals, if it has any, and each of its operators have one line each, in this order. No other line
-/// begins with the same place. Only lines of branch hints come between these lines.
+/// If bytes encode a module, its bodies are printed flat (`skeleton` and folding are off) and no `dylink.0` section is
+/// refused, these have one line each, in this order: the header of each function, with the place of its body; its
+/// locals, if it has any, with the place of the first entry that declares one; and each of its operators before the
+/// last `end`, with its place. No other line begins with the same place. Only lines of branch hints come between these
+/// lines. All other options are arbitrary, and so are the printer's answers to its claims.
 pub fn functions_have_lines()
     ensures { FunctionsHaveLines }
 {}

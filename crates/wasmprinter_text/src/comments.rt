@@ -15,7 +15,8 @@ pub(crate) fn write_between<O: Output>(out: &mut O, before: &str, s: &str, after
     out.write_str(after);
 }
 
-/// Writes a space and a comment `(;content;)` without a style.
+/// Writes a space and a comment `(;content;)` without a style. `content` is written as it is: a `(;` or `;)` in it would
+/// change where the comment ends.
 pub fn write_unstyled_comment<O: Output>(out: &mut O, content: &str)
     ensures { O.wrote out.old out.new (BlockComment false content.now ∷ []) }
 {

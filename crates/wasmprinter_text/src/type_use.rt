@@ -44,7 +44,7 @@ fn write_signature_at<O: Output, S: Signatures>(
 }
 
 /// Writes a space and a group `(type ..)` with the index of a type, by the type's identifier if it has one. It is not
-/// checked that there is such a type.
+/// checked that there is such a type: an index without one may have an identifier too, given or synthesized.
 #[tactic(auto, unfolding(wasmprinter_spec::specs::Layout::ValTypes::type_index_pieces))]
 pub fn write_type_index<O: Output>(out: &mut O, identifiers: &Identifiers<'_, '_>, index: u32)
     ensures { O.wrote out.old out.new

@@ -31,7 +31,7 @@ impl<W> Ansi<W> {
         Ansi { inner }
     }
 
-    /// Returns the wrapped writer.
+    /// Returns the wrapped writer, to which nothing is written.
     pub fn into_inner(self) -> W
         ensures { result ≡ self.inner }
     {

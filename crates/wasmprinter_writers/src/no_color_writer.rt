@@ -21,7 +21,7 @@ impl<W> NoColor<W> {
         NoColor { inner }
     }
 
-    /// Returns the wrapped writer.
+    /// Returns the wrapped writer, to which nothing is written.
     pub fn into_inner(self) -> W
         ensures { result ≡ self.inner }
     {
