@@ -67,14 +67,17 @@ not_fourteen Unreadable h = omega (arith, h)
 not_fourteen (Printer x) h = omega (arith, h)
 not_fourteen Memory h = omega (arith, h)
 
+-- A number is neither of two others.
+neither : (n k l : ℕ) → (n ≡ k → ⊥) → (n ≡ l → ⊥) → (n ≡ k) ⊎ (n ≡ l) → ⊥
+neither n k l f g (inl e) = f e
+neither n k l f g (inr e) = g e
+
 -- No error has the status of a printed module, of a wrong indent or of a list that is cut off.
 no_such_error : (e : Error) → (number_of e ≡ 0) ⊎ (number_of e ≡ 12) → ⊥
-no_such_error e (inl z) = not_zero e z
-no_such_error e (inr t) = not_twelve e t
+no_such_error e h = neither (number_of e) 0 12 (not_zero e) (not_twelve e) h
 
 no_wrong_request : (e : Error) → (number_of e ≡ 12) ⊎ (number_of e ≡ 14) → ⊥
-no_wrong_request e (inl t) = not_twelve e t
-no_wrong_request e (inr f) = not_fourteen e f
+no_wrong_request e h = neither (number_of e) 12 14 (not_twelve e) (not_fourteen e) h
 
 -- An error with the number 2 is true only of a component.
 two_true : (o : Options) (bytes : List ℕ) (e : Error) → IsTrueOrUncopied o bytes e → number_of e ≡ 2 → IsComponent bytes
@@ -188,12 +191,8 @@ module _ (bytes : List ℕ) (b : Buffers) (p : Request) where
     cut_at = λ f. cut;
     untouched = λ h. (same, refl, refl);
     known = λ k. omega (arith, k);
-    no_detail = λ h. absurd (no_rejection h);
+    no_detail = λ h. absurd (neither 14 0 12 (λ z. omega (arith, z)) (λ t. omega (arith, t)) h);
   }
-    where
-      no_rejection : (14 ≡ 0) ⊎ (14 ≡ 12) → ⊥
-      no_rejection (inl z) = omega (arith, z)
-      no_rejection (inr t) = omega (arith, t)
 
   pub printed_outcome : (names : List (List ℕ)) (length count : ℕ) → ¬ IsComponent bytes → IsUtf8 p.options.indent → IsListOf names p.omitted →
       HasEventsOver p bytes b length count → IsOutcome p bytes b (record { status = 0; length = length; count = count; detail = 0 })
@@ -204,11 +203,7 @@ module _ (bytes : List ℕ) (b : Buffers) (p : Request) where
     wrong_indent = (λ t. absurd (omega (arith, t)), λ w. absurd (w.1 valid));
     wrong_list = (λ f. absurd (omega (arith, f)), λ w. absurd (whole_not_cut names w.2.0 p.omitted listed w.2.1));
     cut_at = λ f. absurd (omega (arith, f));
-    untouched = λ h. absurd (no_rejection h);
+    untouched = λ h. absurd (neither 0 12 14 (λ t. omega (arith, t)) (λ f. omega (arith, f)) h);
     known = λ k. omega (arith, k);
     no_detail = λ h. refl;
   }
-    where
-      no_rejection : (0 ≡ 12) ⊎ (0 ≡ 14) → ⊥
-      no_rejection (inl t) = omega (arith, t)
-      no_rejection (inr f) = omega (arith, f)

@@ -42,7 +42,7 @@ use Rattle.wasmprinter_c.proofs.Answered.{AreAnswered, alike_answered, IsLayoutF
 abbrev pub copying : Copier → Copier → Change Copier
 copying old new = change copied_meaning old new
 
-pub -- Each call answers by the printer's list of names, and keeps the list.
+-- Each call answers by the printer's list of names, and keeps the list.
 call_answered : (names : List (List ℕ)) (s : Copier) (c : Call) (t : Copier) → CopiedAfter s c t → IsListOf names s.omitted.now → IsAnsweredFor names c
 call_answered names s (Text bytes) t h l = tt
 call_answered names s Newline t h l = tt
