@@ -9,7 +9,7 @@ use Rattle.wasmprinter_print.specs.Change.{change}
 use Rattle.wasmprinter.specs.AnsiText.{ansi_text_meaning}
 use Rattle.wasmprinter.proofs.Outcomes.{refusal_cause}
 use Rattle.wasmprinter_c.specs.Omitted.{IsListOf, IsCutAt}
-use Rattle.wasmprinter_c.specs.Printing.{Request, Buffers, HasEventsOver}
+use Rattle.wasmprinter_c.specs.Printing.{Request, request, Buffers, HasEventsOver}
 use Rattle.wasmprinter_c.specs.Refused.{number_of, detail_in, IsCopied, HasBufferCause, IsBufferRefusal, IsTrueOrUncopied, LeavesBuffer}
 use Rattle.wasmprinter_c.specs.Outcomes.{IsOutcome}
 use Rattle.wasmprinter_c.specs.declared.Outcome.{Outcome}
@@ -207,3 +207,10 @@ module _ (bytes : List ℕ) (b : Buffers) (p : Request) where
     known = λ k. omega (arith, k);
     no_detail = λ h. refl;
   }
+
+  pub printed_by : (o : Options) (length count : ℕ) → o ≡ p.options → ¬ IsComponent bytes → IsUtf8 p.options.indent → (names : List (List ℕ)) × IsListOf names p.omitted →
+      HasEventsOver (request o p.all_events p.limit p.omitted) bytes b length count →
+      IsOutcome p bytes b (record { status = 0; length = length; count = count; detail = 0 })
+  printed_by o length count same unmarked valid (names, listed) has =
+      printed_outcome names length count unmarked valid listed
+      (subst (λ (x : Options). HasEventsOver (request x p.all_events p.limit p.omitted) bytes b length count) same has)

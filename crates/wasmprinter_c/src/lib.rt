@@ -180,13 +180,13 @@ fn print_over(
     out: &mut [u8],
     table: &mut [WasmprinterEvent],
 ) -> Result<Extent, Error>
-    ensures printed { (names : List (List ℕ)) → IsListOf names asked.omitted.now → IfOk result (λ x.
-        HasEventsOver (request config.now (bit_of 4 asked.flags) asked.limit asked.omitted.now) wasm.now
+    ensures printed { (names : List (List ℕ)) → IsListOf names asked.entry.omitted.now → IfOk result (λ x.
+        HasEventsOver (request config.now (bit_of 4 asked.entry.flags) asked.entry.limit asked.entry.omitted.now) wasm.now
         (buffers out.old out.new table.old table.new) x.length x.count) }
-    ensures refused { (names : List (List ℕ)) → IsListOf names asked.omitted.now
-        → IfErr result (IsBufferRefusal names config.now wasm.now asked.limit) }
-    ensures left { (names : List (List ℕ)) → IsListOf names asked.omitted.now
-        → IfErr result (λ e. LeavesBuffer names config.now wasm.now asked.limit e out.old out.new) }
+    ensures refused { (names : List (List ℕ)) → IsListOf names asked.entry.omitted.now
+        → IfErr result (IsBufferRefusal names config.now wasm.now asked.entry.limit) }
+    ensures left { (names : List (List ℕ)) → IsListOf names asked.entry.omitted.now
+        → IfErr result (λ e. LeavesBuffer names config.now wasm.now asked.entry.limit e out.old out.new) }
     ensures component { IsErrOf result Error.Component ↔ IsComponent wasm.now }
 {
     let all_events = has_bit(asked.flags, EVENTS);
@@ -231,7 +231,7 @@ fn print_by(
     out: &mut [u8],
     table: &mut [WasmprinterEvent],
 ) -> Outcome
-    ensures { IsOutcome (request_of asked.flags asked.indent.now asked.limit asked.omitted.now) wasm.now (buffers out.old out.new table.old table.new) result }
+    ensures { IsOutcome (request_of asked.entry.flags asked.entry.indent.now asked.entry.limit asked.entry.omitted.now) wasm.now (buffers out.old out.new table.old table.new) result }
 {
     if is_component(wasm) {
         return refused(&Error::Component);
