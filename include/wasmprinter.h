@@ -214,8 +214,9 @@ WASMPRINTER_INLINE size_t wasmprinter_add_name(WasmprinterBuffer list, size_t le
  * Returns WASMPRINTER_OK or the number of an error. If several errors apply, WASMPRINTER_UNKNOWN_OPTION is returned first, then
  * WASMPRINTER_COMPONENT, then WASMPRINTER_INVALID_INDENT, then WASMPRINTER_INVALID_LIST, then any other. After
  * WASMPRINTER_DYLINK_SUBSECTION, WASMPRINTER_TOO_LONG and, with WASMPRINTER_FOLD, WASMPRINTER_MEMORY, `out` may hold a prefix of the text,
- * which is not longer than the limit; the bytes after the prefix are unchanged. After any other error `out` is unchanged. After an error the
- * entries of `lines` are not specified.
+ * which is not longer than the limit; the bytes after the prefix are unchanged. After any other error `out` is unchanged. After
+ * WASMPRINTER_UNKNOWN_OPTION, WASMPRINTER_INVALID_INDENT and WASMPRINTER_INVALID_LIST `lines` is unchanged too. After any other error its
+ * entries are not specified.
  *
  * The limit and out.len are independent. A text that is not longer than the limit is printed as without a limit. For any other text,
  * printing stops with WASMPRINTER_TOO_LONG before the text gets longer than the limit. The whole module is decoded before printing starts,

@@ -18,7 +18,7 @@ use Rattle.wasmprinter_laws.proofs.Ranges.{ranged}
 use Rattle.wasmprinter_laws.proofs.Customs.Notes.{customs_after_kind}
 use Rattle.wasmprinter_laws.proofs.Customs.Places.{custom_positions, over, over_all}
 use Rattle.wasmprinter.specs.Outcome.{FirstIsUnknown}
-use Rattle.wasmprinter_c.specs.Omitted.{has_name, answers_for, kept_customs}
+use Rattle.wasmprinter_c.specs.Omitted.{answers_for, kept_customs}
 use Rattle.wasmprinter_c.proofs.Answered.{is_omitted, named_parts, module-named}
 
 first_some-assoc : (a b c : Option ℕ) → first_some (first_some a b) c ≡ first_some a (first_some b c)

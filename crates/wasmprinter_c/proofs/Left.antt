@@ -18,7 +18,6 @@ use Rattle.wasmprinter_print.specs.MadeLaws.{atoms-append}
 use Rattle.wasmprinter.specs.Printed.{Printed}
 use Rattle.wasmprinter.specs.Outcome.{FirstIsUnknown, HasListedCause, IsPrintRefusal, Leaves, LeavesBeginning, WhilePrinting, MadeUpTo}
 use Rattle.wasmprinter.proofs.Named.{same_module}
-use Rattle.wasmprinter_c.specs.Over.{over}
 use Rattle.wasmprinter_c.specs.Copied.{copied_meaning}
 use Rattle.wasmprinter_c.specs.Events.{events}
 use Rattle.wasmprinter_c.specs.Refused.{IsTooLong, HasBufferCause, IsBufferRefusal, IsWritten, LeavesBuffer}

@@ -8,7 +8,7 @@ use Rattle.wasmprinter_spec.specs.Options.{Options}
 use Rattle.wasmprinter_print.specs.Change.{change}
 use Rattle.wasmprinter.specs.AnsiText.{ansi_text_meaning}
 use Rattle.wasmprinter.proofs.Outcomes.{refusal_cause}
-use Rattle.wasmprinter_c.specs.Omitted.{IsListOf, IsCutAt}
+use Rattle.wasmprinter_c.specs.Omitted.{IsListOf}
 use Rattle.wasmprinter_c.specs.Printing.{Request, request, Buffers, HasEventsOver}
 use Rattle.wasmprinter_c.specs.Refused.{number_of, detail_in, IsCopied, HasBufferCause, IsBufferRefusal, IsTrueOrUncopied, LeavesBuffer}
 use Rattle.wasmprinter_c.specs.Outcomes.{IsOutcome}
@@ -161,40 +161,10 @@ module _ (bytes : List ℕ) (b : Buffers) (outcome : Outcome) (p : Request) wher
       (refused_outcome p bytes b names e unmarked valid listed (subst (λ (x : Options). IsBufferRefusal names x bytes p.limit e) same refused)
       (subst (λ (x : Options). LeavesBuffer names x bytes p.limit e b.old b.new) same left))
 
--- ---- A request that is rejected, and a module that was printed
+-- ---- A module that was printed
 
 module _ (bytes : List ℕ) (b : Buffers) (p : Request) where
-  -- The outcome for an indent or a list of names that is not as it has to be.
-  abbrev rejection : ℕ → ℕ → Outcome
-  rejection status detail = record { status = status; length = 0; count = 0; detail = detail }
-
-  pub rejected_indent : b.new ≡ b.old → ¬ IsComponent bytes → ¬ IsUtf8 p.options.indent → IsOutcome p bytes b (rejection 12 0)
-  rejected_indent same unmarked invalid = record {
-    printed = λ z. absurd (omega (arith, z));
-    refused = λ z t f. absurd (t refl);
-    component = (λ two. absurd (omega (arith, two)), λ c. absurd (unmarked c));
-    wrong_indent = (λ t. (unmarked, invalid), λ w. refl);
-    wrong_list = (λ f. absurd (omega (arith, f)), λ w. absurd (invalid w.1));
-    cut_at = λ f. absurd (omega (arith, f));
-    untouched = λ h. (same, refl, refl);
-    known = λ k. omega (arith, k);
-    no_detail = λ h. refl;
-  }
-
-  pub rejected_list : (place : ℕ) → b.new ≡ b.old → ¬ IsComponent bytes → IsUtf8 p.options.indent → IsCutAt place p.omitted → IsOutcome p bytes b (rejection 14 place)
-  rejected_list place same unmarked valid cut = record {
-    printed = λ z. absurd (omega (arith, z));
-    refused = λ z t f. absurd (f refl);
-    component = (λ two. absurd (omega (arith, two)), λ c. absurd (unmarked c));
-    wrong_indent = (λ t. absurd (omega (arith, t)), λ w. absurd (w.1 valid));
-    wrong_list = (λ f. (unmarked, valid, (place, cut)), λ w. refl);
-    cut_at = λ f. cut;
-    untouched = λ h. (same, refl, refl);
-    known = λ k. omega (arith, k);
-    no_detail = λ h. absurd (neither 14 0 12 (λ z. omega (arith, z)) (λ t. omega (arith, t)) h);
-  }
-
-  pub printed_outcome : (names : List (List ℕ)) (length count : ℕ) → ¬ IsComponent bytes → IsUtf8 p.options.indent → IsListOf names p.omitted →
+  printed_outcome : (names : List (List ℕ)) (length count : ℕ) → ¬ IsComponent bytes → IsUtf8 p.options.indent → IsListOf names p.omitted →
       HasEventsOver p bytes b length count → IsOutcome p bytes b (record { status = 0; length = length; count = count; detail = 0 })
   printed_outcome names length count unmarked valid listed has = record {
     printed = λ z. has;

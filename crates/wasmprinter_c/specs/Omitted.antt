@@ -1,5 +1,5 @@
 -- The names of custom sections that are left out: the list of them in bytes, and the answers to claims that they give.
-use Rattle.std.specs.Prelude.{◌≡◌, ◌+◌, ℕ, List, [], ◌∷◌, ◌++◌, Bool, true, false, ◌||◌, not, bytes_eq, Option, Some, None, length, slice_get}
+use Rattle.std.specs.Prelude.{◌≡◌, ◌+◌, ℕ, List, [], ◌∷◌, ◌++◌, Bool, false, ◌||◌, not, bytes_eq, Option, Some, None, length, slice_get}
 use Rattle.std.specs.List.{filter}
 use Rattle.wasmprinter_spec.specs.Call.{Call, Text, Newline, Line, Start, Claim}
 use Rattle.wasmprinter_spec.specs.Instructions.{little_endian}

@@ -39,8 +39,10 @@ pub record IsOutcome (r : Request) (bytes : List ℕ) (b : Buffers) (outcome : O
   pub wrong_list : (outcome.status ≡ list_status) ↔ ((¬ IsComponent bytes) × IsUtf8 r.options.indent × IsCutOff r.omitted)
   -- The detail is then the offset in the list at which no complete name follows.
   pub cut_at : outcome.status ≡ list_status → IsCutAt outcome.detail r.omitted
-  -- If the status is `indent_status` or `list_status`, the buffer is unchanged, and the counts of bytes and events are 0.
-  pub untouched : (outcome.status ≡ indent_status) ⊎ (outcome.status ≡ list_status) → (b.new ≡ b.old) × (outcome.length ≡ 0) × (outcome.count ≡ 0)
+  -- If the status is `indent_status` or `list_status`, the buffer and the table are unchanged, and the counts of bytes and
+  -- events are 0.
+  pub untouched : (outcome.status ≡ indent_status) ⊎ (outcome.status ≡ list_status) →
+      (b.new ≡ b.old) × (b.after ≡ b.before) × (outcome.length ≡ 0) × (outcome.count ≡ 0)
   -- The status is not the one for an unknown bit.
   pub known : ¬ (outcome.status ≡ option_status)
   -- If the status is `ok_status` or `indent_status`, the detail is 0.

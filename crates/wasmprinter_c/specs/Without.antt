@@ -1,5 +1,5 @@
 -- The text of a module without the custom sections with some names, its lines, and its prefixes.
-use Rattle.std.specs.Prelude.{◌≡◌, ◌++◌, ℕ, List, false, Option, Some, None, slice_get}
+use Rattle.std.specs.Prelude.{◌≡◌, ◌++◌, ℕ, List, false, Some, None, slice_get}
 use Rattle.std.specs.List.{AllByRecursion}
 use Rattle.wasmprinter_spec.specs.Module.{module_of}
 use Rattle.wasmprinter_spec.specs.Indexed.{IsIndexed}

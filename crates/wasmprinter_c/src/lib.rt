@@ -291,7 +291,8 @@ fn print_by(
 /// - 11: an allocation failed.
 ///
 /// After the errors 8, 10 and, if operators are folded, 11, `out` may hold a prefix of the text. After any other error
-/// it is unchanged. After any error except 13 the entries of `table` are not specified.
+/// it is unchanged. After the errors 12, 13 and 14 `table` is unchanged. After any other error its entries are not
+/// specified.
 #[unsafe(no_mangle)]
 pub extern "C" fn wasmprinter_raw_print(
     alloc: Global,

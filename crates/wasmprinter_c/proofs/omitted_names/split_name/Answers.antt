@@ -1,5 +1,4 @@
 use Rattle.std.proofs.Common.{arith}
-use Rattle.std.specs.Prelude.{get_or}
 use Rattle.wasmprinter_c.proofs.NameLists.{starts}
 use Rattle.wasmprinter_c.proofs.omitted_names.split_name.Goals as goal
 
