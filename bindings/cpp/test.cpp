@@ -488,11 +488,12 @@ static void check_many_lines() {
 // Prints a module with each limit to a buffer that is longer than its text. After the text, or a prefix of it, the buffer is unchanged.
 static void check_limits() {
     const std::string filler(ONE_TYPE_TEXT.size() + 2, '#');
+    const std::string no_names;
     Options options;
     for (options.limit = 1; options.limit <= filler.size(); options.limit++) {
         std::string out = filler;
         WasmprinterResult result = {1, 1, 1};
-        const WasmprinterOptions chosen = wasmprinter::detail::options_of(options, {});
+        const WasmprinterOptions chosen = wasmprinter::detail::options_of(options, no_names);
         const auto status = wasmprinter_print(wasmprinter_bytes(ONE_TYPE.data(), ONE_TYPE.size()), &chosen, {out.data(), out.size()}, &result);
         const bool fits = ONE_TYPE_TEXT.size() <= options.limit;
         const std::size_t held = out.find('#');
