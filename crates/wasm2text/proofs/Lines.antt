@@ -180,10 +180,11 @@ cause : (c : Cause) → IsPrintable (cause_text c)
 cause (System e) = kind (error_kind e)
 cause (Module e) = error e
 cause (NoByte offset len) =
-    both_printable (codes "byte ") (place_text offset ++ (codes " is not in the module, which has " ++ (place_text len ++ codes " bytes"))) refl
-    (both_printable (place_text offset) (codes " is not in the module, which has " ++ (place_text len ++ codes " bytes")) (place offset)
-    (both_printable (codes " is not in the module, which has ") (place_text len ++ codes " bytes") refl
-    (both_printable (place_text len) (codes " bytes") (place len) refl)))
+    let hex : (n : ℕ) → IsPrintable (digits 16 false n) = λ n. number 16 n (omega arith) (omega arith) in
+    both_printable (codes "byte 0x") (digits 16 false offset ++ (codes " is not in the module, which has 0x" ++ (digits 16 false len ++ codes " bytes"))) refl
+    (both_printable (digits 16 false offset) (codes " is not in the module, which has 0x" ++ (digits 16 false len ++ codes " bytes")) (hex offset)
+    (both_printable (codes " is not in the module, which has 0x") (digits 16 false len ++ codes " bytes") refl
+    (both_printable (digits 16 false len) (codes " bytes") (hex len) refl)))
 cause (Output e) = both_printable (codes "can't write the text: ") (kind_name (error_kind e)) refl (kind (error_kind e))
 
 -- The errors of the command line have no control characters.

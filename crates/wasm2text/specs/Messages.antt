@@ -3,11 +3,12 @@ use Rattle.std.specs.Prelude.{◌≡◌, ℕ, List, [], ◌∷◌, ◌++◌, fla
 use Rattle.std.specs.Char.{is_control}
 use Rattle.std.specs.Char.Escape.{backslash, escape_default}
 use Rattle.std.specs.Str.{NoCharPasses}
+use Rattle.std.specs.Fmt.{digits}
 use Rattle.std.specs.IoError.{error_kind}
 use Rattle.std.specs.declared.io.Error.{Error as IoError}
 use Rattle.std.specs.declared.io.ErrorKind.{ErrorKind}
 use Rattle.std.specs.declared.io.ErrorKind.TheVariants.{NotFound, PermissionDenied, IsADirectory, NotADirectory, InvalidFilename, FilesystemLoop, ReadOnlyFilesystem, StorageFull, QuotaExceeded, FileTooLarge, BrokenPipe, OutOfMemory}
-use Rattle.wasmprinter_bytes.specs.Messages.{place_text, error_text}
+use Rattle.wasmprinter_bytes.specs.Messages.{error_text}
 use Rattle.wasm2text.specs.declared.cause.Cause.{Cause}
 use Rattle.wasm2text.specs.declared.cause.Cause.TheVariants.{System, Module, NoByte, Output}
 use Rattle.wasm2text.specs.declared.options.Setting.{Setting}
@@ -40,7 +41,8 @@ is_closed_pipe kind = false
 abbrev pub cause_text : Cause → List ℕ
 cause_text (System error) = kind_name (error_kind error)
 cause_text (Module error) = error_text error
-cause_text (NoByte offset len) = codes "byte " ++ (place_text offset ++ (codes " is not in the module, which has " ++ (place_text len ++ codes " bytes")))
+cause_text (NoByte offset len) =
+    codes "byte 0x" ++ (digits 16 false offset ++ (codes " is not in the module, which has 0x" ++ (digits 16 false len ++ codes " bytes")))
 cause_text (Output error) = codes "can't write the text: " ++ kind_name (error_kind error)
 
 -- A character of a name or a word is escaped in a message if it is a control character or a backslash.
