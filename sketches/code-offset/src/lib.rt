@@ -1,0 +1,4 @@
+//! Stub.
+#![tactic(auto)]
+
+pub mod code_section;
