@@ -1,4 +1,0 @@
-//! Stub.
-#![tactic(auto)]
-
-pub mod code_section;
