@@ -64,7 +64,10 @@ fn run<S: Source>(source: &S, alloc: Global, words: &[String]) -> Result<String,
     let [file] = words else {
         return Err(Failure::Usage);
     };
-    print_file(source, alloc, Path::new(file.as_str())).map_err(Failure::Refused)
+    match print_file(source, alloc, Path::new(file.as_str())) {
+        Ok(text) => Ok(text),
+        Err(error) => Err(Failure::Refused(error)),
+    }
 }
 
 impl Failure {
