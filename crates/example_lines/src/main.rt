@@ -1,56 +1,128 @@
-//! `example_lines FILE OFFSET..` is a source map. For each byte offset in a module, it prints the line of the text
-//! that shows the byte, and the byte offset at which that line starts.
+//! `example_lines FILE OFFSET` is a source map: it prints the line of a module's text that shows the byte at an offset,
+//! in decimal or, after `0x`, in hexadecimal. `example_lines FILE line:NUMBER` maps the other way. Both print the number
+//! of the line, the byte offset at which it starts, and its text.
+//!
+//! `run` does the work. It reads from any [`Source`] and prints nothing, so tests can run it over files in memory. `main`
+//! and `start` do the rest: arguments, output and exit status.
 #![tactic(auto)]
 
-ghost use Rattle.std.specs.Prelude.{◌<◌, IfSome, length};
+ghost use Rattle.std.specs.Prelude.{◌≡◌};
+ghost use Rattle.example_lines.specs.Status.{status_of};
 
+mod line_search;
+mod query;
+#[cfg(test)]
+mod tests;
+
+use line_search::{Line, find};
+use query::Query;
+use std::alloc::Global;
 use std::path::Path;
-use std::{env, fs, io};
-use wasmprinter::{Config, Error};
+use std::process::ExitCode;
+use std::{env, fmt, io};
+use wasmprinter::{Config, Error, Source};
 
-/// Returns the index of the line that shows a byte: the last line whose place is not after the byte.
-fn line_at(lines: &[(Option<u64>, &str)], offset: u64) -> Option<usize>
-    ensures { IfSome result (λ index. index < length lines.now) }
-{
-    let mut found = None;
-    for index in 0..lines.len() {
-        if lines[index].0.is_some_and(|place| place <= offset) {
-            found = Some(index);
+/// The exit status if there is no such line, the file can't be read, its module can't be printed, or the system reports
+/// another error.
+const FAILED: u8 = 1;
+
+/// The exit status if the arguments do not match the usage line.
+const MISUSED: u8 = 2;
+
+/// A reason why there is no answer. Its `Display` text is the line for standard error.
+#[derive(Debug, Drop)]
+enum Failure {
+    /// The arguments do not match the usage line.
+    Usage,
+    /// The module has no such byte, or its text has no such line.
+    Outside(Query),
+    /// The file can't be read, or its module can't be printed.
+    Refused(Error),
+}
+
+fn main(rt: HostRuntime) -> ExitCode {
+    let status = start(&rt).unwrap_or_else(|error| {
+        let _ = eprintln!(rt; "error: {error}");
+        FAILED
+    });
+    ExitCode::from(status)
+}
+
+/// Prints the answer, or the line of a failure, and returns the exit status. An error of reading the arguments or of
+/// writing the answer is returned.
+fn start(rt: &HostRuntime) -> io::Result<u8> {
+    let words: Vec<String> = env::args(rt)?.skip(1).collect(rt.alloc())?;
+    match run(rt, rt.alloc(), &words) {
+        Ok(answer) => {
+            println!(rt; "{answer}")?;
+            Ok(0)
+        }
+        Err(failure) => {
+            let _ = eprintln!(rt; "{failure}");
+            Ok(failure.status())
         }
     }
-    found
 }
 
-/// Prints the line that shows a byte, and the byte offset at which that line starts.
-fn print_line<R: Print>(rt: &R, lines: &[(Option<u64>, &str)], offset: u64) -> io::Result<()> {
-    let Some(index) = line_at(lines, offset) else {
-        return println!(rt; "byte {offset:#x} is on no line");
+/// Returns the answer to the words, which name a file, and a byte of its module or a line of its text.
+fn run<S: Source>(source: &S, alloc: Global, words: &[String]) -> Result<String, Failure> {
+    let [file, word] = words else {
+        return Err(Failure::Usage);
     };
-    let (place, text) = lines[index];
-    let start = place.unwrap_or(0);
-    let number = index.saturating_add(1);
-    println!(rt;
-        "byte {offset:#x} is on line {number}, which starts at byte {start:#x}: {}",
-        text.trim()
-    )
+    let query = Query::from_word(word.as_str()).ok_or(Failure::Usage)?;
+    let answer = answer(source, alloc, file.as_str(), query).map_err(Failure::Refused)?;
+    answer.ok_or(Failure::Outside(query))
 }
 
-fn main(rt: HostRuntime) -> Result<(), Error> {
-    let alloc = rt.alloc();
-    let words = env::args(&rt)?.skip(1).collect::<Vec<String>>(alloc)?;
-    let Some(file) = words.first() else {
-        eprintln!(rt; "usage: example_lines FILE OFFSET..")?;
-        return Ok(());
-    };
-    let wasm = fs::read(&rt, Path::new(file.as_str()))?;
+/// Returns the answer to a query about the module in a file, or `None` if the module has no such byte, or its text no
+/// such line.
+fn answer<S: Source>(
+    source: &S,
+    alloc: Global,
+    file: &str,
+    query: Query,
+) -> Result<Option<String>, Error> {
+    let wasm = source.read(Path::new(file)).map_err(|_| Error::Unreadable)?;
     let mut storage = String::new(alloc);
     let text = Config::new().offsets_and_lines(alloc, &wasm, &mut storage)?;
-    let lines: Vec<(Option<u64>, &str)> = text.collect(alloc)?;
-    for word in words.iter().skip(1) {
-        match word.as_str().parse::<u64>() {
-            Ok(offset) => print_line(&rt, &lines, offset)?,
-            Err(_) => eprintln!(rt; "not an offset: {word}")?,
+    let lines: Vec<Line<'_>> = text.collect(alloc)?;
+    let Some(index) = find(&lines, wasm.len(), query) else {
+        return Ok(None);
+    };
+    let (place, text) = lines[index];
+    let number = index + 1;
+    let text = text.trim();
+    Ok(Some(match place {
+        Some(place) => format!(in alloc; "line {number} starts at byte 0x{place:x}: {text}")?,
+        None => format!(in alloc; "line {number} shows no byte: {text}")?,
+    }))
+}
+
+impl Failure {
+    /// Returns the exit status of the program.
+    fn status(&self) -> u8
+        ensures { result ≡ status_of self.now }
+    {
+        match self {
+            Failure::Usage => MISUSED,
+            _ => FAILED,
         }
     }
-    Ok(())
+}
+
+impl fmt::Display for Failure {
+    fn fmt<W: fmt::Write>(&self, f: &mut fmt::Formatter<W>) -> fmt::Result {
+        match self {
+            Failure::Usage => f.write_str("usage: example_lines FILE (OFFSET | line:NUMBER)"),
+            Failure::Outside(Query::Byte(offset)) => write!(
+                f,
+                "error: no line shows byte 0x{offset:x}"
+            ),
+            Failure::Outside(Query::Line(number)) => write!(
+                f,
+                "error: the text has no line {number}"
+            ),
+            Failure::Refused(error) => write!(f, "error: {error}"),
+        }
+    }
 }
