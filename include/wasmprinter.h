@@ -15,10 +15,10 @@
  * the caller's buffer while they print. When operators are folded, they first collect the text of a body's operators in memory that they
  * allocate.
  *
- * Pointers: if the `ptr` of a module, a buffer or a table is null, it counts as empty, whatever its `len` is. `options`, the `ptr` of an indent,
- * `result` and `resize` may be null too. No other pointer may be null, and no pointer that is passed to a function whose name starts with
- * `wasmprinter_raw_`. An object that a function writes to must not overlap any other object that is passed to it, nor the block of
- * wasmprinter_print_alloc. */
+ * Pointers: if the `ptr` of a module, a list of names, a buffer or a table is null, it counts as empty, whatever its `len` is. `options`,
+ * the `ptr` of an indent, `result`, `resize` and a name of length 0 may be null too. No other pointer may be null, and no pointer that is
+ * passed to a function whose name starts with `wasmprinter_raw_`. An object that a function writes to must not overlap any other object that
+ * is passed to it, nor the block of wasmprinter_print_alloc. */
 #ifndef WASMPRINTER_H
 #define WASMPRINTER_H
 
@@ -73,6 +73,11 @@ typedef struct WasmprinterOptions {
     uint32_t flags;          /* the sum of WASMPRINTER_OFFSETS and the others */
     WasmprinterBytes indent; /* the text of one level of nesting, in UTF-8; two spaces if `ptr` is null */
     size_t limit;            /* the greatest length of the text in bytes; 0: no limit */
+    /* A list of the names of custom sections to leave out, as wasmprinter_add_name makes it. If it is empty, none is left out. Names are equal
+     * if their bytes are. The names in a section `name` and the hints in a section `metadata.code.branch_hint` apply even if it is left out.
+     * For each custom section the list is searched from its start, so the time of a call can grow with the number of custom sections times
+     * the length of the list. */
+    WasmprinterBytes omitted;
 } WasmprinterOptions;
 
 /* The statuses. Each error stores a detail, which is 0 unless stated otherwise. */
@@ -86,12 +91,13 @@ enum {
     WASMPRINTER_EMPTY_TABLE_INIT = 5,   /* a table whose initialiser has no operators; detail: the place of the table */
     WASMPRINTER_FOLD_LEGACY = 6,        /* only with WASMPRINTER_FOLD: a legacy exception operator; detail: its place */
     WASMPRINTER_FOLD_HINT = 7,          /* only with WASMPRINTER_FOLD: a branch hint that has no position in folded text; detail: its place */
-    WASMPRINTER_DYLINK_SUBSECTION = 8,  /* an unknown subsection of `dylink.0`; detail: the id of the first */
+    WASMPRINTER_DYLINK_SUBSECTION = 8,  /* an unknown subsection of a `dylink.0` that is not left out; detail: the id of the first */
     WASMPRINTER_UNREADABLE = 9,         /* never returned: no function reads a file */
     WASMPRINTER_TOO_LONG = 10,          /* the text is longer than the limit or, without a limit, than SIZE_MAX */
     WASMPRINTER_MEMORY = 11,            /* an allocation failed */
     WASMPRINTER_INVALID_INDENT = 12,    /* the indent is not UTF-8 */
-    WASMPRINTER_UNKNOWN_OPTION = 13     /* the flags have bits that this library does not know; detail: these bits */
+    WASMPRINTER_UNKNOWN_OPTION = 13,    /* the flags have bits that this library does not know; detail: these bits */
+    WASMPRINTER_INVALID_LIST = 14       /* the list of names is cut off; detail: the byte offset in it of the length of the name that is cut off */
 };
 
 /* The place of WASMPRINTER_MALFORMED is that of the first unexpected byte, number or entry, or of bytes whose encoded length exceeds the bytes
@@ -123,7 +129,7 @@ enum {
     WASMPRINTER_TYPE = 5,          /* the style of types starts */
     WASMPRINTER_COMMENT = 6,       /* the style of comments starts */
     WASMPRINTER_RESET = 7,         /* the style ends */
-    WASMPRINTER_CUSTOM_SECTION = 8 /* a custom section, printed or not; `start` is before the line feed of the line before */
+    WASMPRINTER_CUSTOM_SECTION = 8 /* a custom section, printed, left out or not shown; `start` is before the line feed of the line before */
 };
 
 /* An event of the text. The events are in the order of printing: no `start` is less than the one before, and several can be equal. */
@@ -142,11 +148,13 @@ typedef struct WasmprinterTable {
 /* ---- The exported functions. The functions below call them, and are easier to call. */
 
 /* Prints a module, as wasmprinter_print_lines does. `flags` are the options, and `table` receives the lines or the events. `limit` is the
- * greatest length of the text, and SIZE_MAX means no limit. With limit 0 every module that would be printed gives WASMPRINTER_TOO_LONG. No
- * pointer may be null, even if its length is 0. */
+ * greatest length of the text, and SIZE_MAX means no limit. With limit 0 every module that would be printed gives WASMPRINTER_TOO_LONG.
+ * `omitted` is the list of names: each is preceded by its length as four bytes, the lowest first. No pointer may be null, even if its length
+ * is 0. */
 WASMPRINTER_NONNULL WasmprinterStatus wasmprinter_raw_print(const uint8_t *wasm, size_t wasm_len, uint32_t flags, const uint8_t *indent,
-                                                            size_t indent_len, size_t limit, uint8_t *out, size_t out_len,
-                                                            WasmprinterEvent *table, size_t table_len, WasmprinterResult *result);
+                                                            size_t indent_len, size_t limit, const uint8_t *omitted, size_t omitted_len,
+                                                            uint8_t *out, size_t out_len, WasmprinterEvent *table, size_t table_len,
+                                                            WasmprinterResult *result);
 
 /* Writes the description of a status with its detail to `out`: as many of its first bytes as fit. Returns the length of the whole
  * description. `out` may not be null. Allocates nothing. */
@@ -177,6 +185,22 @@ WASMPRINTER_INLINE WasmprinterBuffer wasmprinter_buffer(char *ptr, size_t len) {
     return buffer;
 }
 
+/* Adds a name to a list of names for WasmprinterOptions.omitted. The list is the first `len` bytes of `list`, none at first. Returns its new
+ * length. If that is greater than list.len, nothing is written. A name has at most UINT32_MAX bytes. */
+WASMPRINTER_INLINE size_t wasmprinter_add_name(WasmprinterBuffer list, size_t len, const char *name, size_t name_len) {
+    const size_t new_len = len + 4 + name_len;
+    size_t i;
+    if (list.ptr != NULL && new_len <= list.len) {
+        for (i = 0; i < 4; i++) {
+            list.ptr[len + i] = (char)(name_len >> (8 * i) & 0xff);
+        }
+        for (i = 0; i < name_len; i++) {
+            list.ptr[len + 4 + i] = name[i];
+        }
+    }
+    return new_len;
+}
+
 /* Prints the text of a module to `out`, as snprintf does: writes as many of the first bytes of the text as fit, and stores the length of
  * the whole text. The text is truncated if result->length > out.len. A call with an empty `out` only measures, and nothing is written if
  * out.ptr is null, even if result->length <= out.len. Writes a table of the starts of the lines to `lines`: as many of the first lines as fit,
@@ -188,9 +212,11 @@ WASMPRINTER_INLINE WasmprinterBuffer wasmprinter_buffer(char *ptr, size_t len) {
  * result   receives the lengths and the detail; may be null
  *
  * Returns WASMPRINTER_OK or the number of an error. If several errors apply, WASMPRINTER_UNKNOWN_OPTION is returned first, then
- * WASMPRINTER_COMPONENT, then WASMPRINTER_INVALID_INDENT, then any other. After WASMPRINTER_DYLINK_SUBSECTION, WASMPRINTER_TOO_LONG and,
- * with WASMPRINTER_FOLD, WASMPRINTER_MEMORY, `out` may hold a prefix of the text, which is not longer than the limit; the bytes after the
- * prefix are unchanged. After any other error `out` is unchanged. After an error the entries of `lines` are not specified.
+ * WASMPRINTER_COMPONENT, then WASMPRINTER_INVALID_INDENT, then WASMPRINTER_INVALID_LIST, then any other. After
+ * WASMPRINTER_DYLINK_SUBSECTION, WASMPRINTER_TOO_LONG and, with WASMPRINTER_FOLD, WASMPRINTER_MEMORY, `out` may hold a prefix of the text,
+ * which is not longer than the limit; the bytes after the prefix are unchanged. After any other error `out` is unchanged. After
+ * WASMPRINTER_UNKNOWN_OPTION, WASMPRINTER_INVALID_INDENT and WASMPRINTER_INVALID_LIST `lines` is unchanged too. After any other error its
+ * entries are not specified.
  *
  * The limit and out.len are independent. A text that is not longer than the limit is printed as without a limit. For any other text,
  * printing stops with WASMPRINTER_TOO_LONG before the text gets longer than the limit. The whole module is decoded before printing starts,
@@ -198,32 +224,27 @@ WASMPRINTER_INLINE WasmprinterBuffer wasmprinter_buffer(char *ptr, size_t len) {
  * collected before it is written, so the limit does not bound this memory.
  *
  * With an indent of spaces and tabs the text consists of printable ASCII characters, tabs and line feeds. If also
- * WASMPRINTER_SKELETON is not chosen, and every index that the module uses is declared and names an item of the right kind, the text
- * reads back as the module. */
+ * WASMPRINTER_SKELETON is not chosen, no custom section is left out, and every index that the module uses is declared and names an item of the
+ * right kind, the text reads back as the module. */
 WASMPRINTER_INLINE WasmprinterStatus wasmprinter_print_lines(WasmprinterBytes wasm, const WasmprinterOptions *options, WasmprinterBuffer out,
                                                         WasmprinterTable lines, WasmprinterResult *result) {
     static const uint8_t default_indent[2] = {' ', ' '};
     uint8_t no_bytes[1] = {0};
     WasmprinterEvent no_lines[1] = {{0, 0, 0}};
     WasmprinterResult own_result = {0, 0, 0};
-    const void *bytes = wasm.ptr;
-    const void *indent = default_indent;
+    WasmprinterBytes indent = wasmprinter_bytes(default_indent, sizeof default_indent);
+    WasmprinterBytes omitted = wasmprinter_bytes(no_bytes, 0);
     void *text = out.ptr;
-    size_t indent_len = sizeof default_indent;
-    size_t bytes_len = wasm.len;
     size_t limit = SIZE_MAX;
     uint32_t flags = 0;
     if (options != NULL) {
         flags = options->flags;
         limit = options->limit != 0 ? options->limit : SIZE_MAX;
-        if (options->indent.ptr != NULL) {
-            indent = options->indent.ptr;
-            indent_len = options->indent.len;
-        }
+        indent = options->indent.ptr != NULL ? options->indent : indent;
+        omitted = options->omitted.ptr != NULL ? options->omitted : omitted;
     }
-    if (bytes == NULL) {
-        bytes = no_bytes;
-        bytes_len = 0;
+    if (wasm.ptr == NULL) {
+        wasm = wasmprinter_bytes(no_bytes, 0);
     }
     if (text == NULL) {
         text = no_bytes;
@@ -234,12 +255,12 @@ WASMPRINTER_INLINE WasmprinterStatus wasmprinter_print_lines(WasmprinterBytes wa
         lines.len = 0;
     }
 #ifdef __cplusplus
-    return wasmprinter_raw_print(static_cast<const uint8_t *>(bytes), bytes_len, flags, static_cast<const uint8_t *>(indent), indent_len,
-                                 limit, static_cast<uint8_t *>(text), out.len, lines.ptr, lines.len,
-                                 result != NULL ? result : &own_result);
+    return wasmprinter_raw_print(static_cast<const uint8_t *>(wasm.ptr), wasm.len, flags, static_cast<const uint8_t *>(indent.ptr), indent.len,
+                                 limit, static_cast<const uint8_t *>(omitted.ptr), omitted.len, static_cast<uint8_t *>(text), out.len,
+                                 lines.ptr, lines.len, result != NULL ? result : &own_result);
 #else
-    return wasmprinter_raw_print(bytes, bytes_len, flags, indent, indent_len, limit, text, out.len, lines.ptr, lines.len,
-                                 result != NULL ? result : &own_result);
+    return wasmprinter_raw_print(wasm.ptr, wasm.len, flags, indent.ptr, indent.len, limit, omitted.ptr, omitted.len, text, out.len, lines.ptr,
+                                 lines.len, result != NULL ? result : &own_result);
 #endif
 }
 
@@ -262,6 +283,7 @@ WASMPRINTER_INLINE WasmprinterStatus wasmprinter_print_events(WasmprinterBytes w
         chosen.flags = 0;
         chosen.indent = wasmprinter_bytes(NULL, 0);
         chosen.limit = 0;
+        chosen.omitted = wasmprinter_bytes(NULL, 0);
     }
     chosen.flags |= WASMPRINTER_EVENTS;
     return wasmprinter_print_lines(wasm, &chosen, out, events, result);
@@ -341,7 +363,7 @@ WASMPRINTER_INLINE WasmprinterStatus wasmprinter_print_alloc(WasmprinterBytes wa
 
 /* Writes the description of a status with its detail to `out`, in English and ASCII, such as `malformed module at byte 0x1f`. As snprintf
  * does, it writes at most out.len - 1 of its first bytes and a zero byte, nothing if `out` is empty, and returns the length of the whole
- * description. The description of a status greater than 13 is `unknown status`. Allocates nothing. */
+ * description. The description of a status greater than 14 is `unknown status`. Allocates nothing. */
 WASMPRINTER_INLINE size_t wasmprinter_error_text(WasmprinterStatus status, uint64_t detail, WasmprinterBuffer out) {
     uint8_t no_text[1] = {0};
     void *text = out.ptr;
@@ -379,6 +401,7 @@ WASMPRINTER_INLINE const char *wasmprinter_status_name(WasmprinterStatus status)
     case WASMPRINTER_MEMORY: return "out of memory";
     case WASMPRINTER_INVALID_INDENT: return "indent is not UTF-8";
     case WASMPRINTER_UNKNOWN_OPTION: return "unknown options";
+    case WASMPRINTER_INVALID_LIST: return "list of names is cut off";
     default: return "unknown status";
     }
 }

@@ -44,7 +44,7 @@ warned() {
 }
 
 cc -std=c99 $flags -DFAULT=0 -c bindings/c/faults.c -o "$work/faults.o"
-for fault in 1 2 3 4 5 6 7; do
+for fault in 1 2 3 4 5 6 7 8; do
     warned "$fault" || { echo "bindings: the compiler does not warn of the null pointer $fault of faults.c" >&2; exit 1; }
 done
 echo "c: the compiler warns of each null pointer that the header does not allow"

@@ -159,12 +159,12 @@ found_fault() {
 
 part_faults() {
     start
-    for fault in 1 2 3 4 5 6 7; do
+    for fault in 1 2 3 4 5 6 7 8; do
         found_fault "$fault" 'null pointer passed as argument' "$work/sanitized/faults"
     done
-    found_fault 8 LeakSanitizer "$work/sanitized/faults"
-    found_fault 8 'definitely lost' memcheck "$work/plain/faults"
-    found_fault 9 'Invalid write' memcheck "$work/plain/faults"
+    found_fault 9 LeakSanitizer "$work/sanitized/faults"
+    found_fault 9 'definitely lost' memcheck "$work/plain/faults"
+    found_fault 10 'Invalid write' memcheck "$work/plain/faults"
     expect faults "$work/sanitized/faults"
     expect faults memcheck "$work/plain/faults"
     report faults

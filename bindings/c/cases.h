@@ -25,6 +25,7 @@ typedef struct Case {
     char title[LINE_ROOM];
     Input input;
     uint8_t indent[LINE_ROOM];
+    char omitted[LINE_ROOM]; /* the list of names */
     bool has_places;
     Outcome outcome;
     char error[LINE_ROOM];
@@ -138,6 +139,14 @@ static inline void add_zeros(Input *input, size_t zeros) {
     input->wasm.len += zeros;
 }
 
+/* Adds a name to the list of names. */
+static inline void add_omitted(Case *test_case, const char *name) {
+    WasmprinterBytes *list = &test_case->input.options.omitted;
+    const WasmprinterBuffer buffer = {test_case->omitted, sizeof test_case->omitted};
+    *list = wasmprinter_bytes(test_case->omitted, wasmprinter_add_name(buffer, list->len, name, strlen(name)));
+    expect_file(list->len <= sizeof test_case->omitted, name);
+}
+
 /* Reads a line of a case. */
 static inline void read_line(Case *test_case, const char *line) {
     Input *input = &test_case->input;
@@ -146,6 +155,8 @@ static inline void read_line(Case *test_case, const char *line) {
         read_options(words, &input->options.flags);
     } else if ((words = after("indent", line)) != NULL) {
         input->options.indent = wasmprinter_bytes(test_case->indent, read_bytes(words, test_case->indent, 0, sizeof test_case->indent));
+    } else if ((words = after("omit", line)) != NULL) {
+        add_omitted(test_case, words);
     } else if ((words = after("wasm", line)) != NULL) {
         input->wasm.len = read_bytes(words, wasm, input->wasm.len, sizeof wasm);
     } else if ((words = after("zeros", line)) != NULL) {

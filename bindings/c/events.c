@@ -202,7 +202,7 @@ static const WasmprinterEvent TYPED_EVENTS[] = {
 static void check_typed(void) {
     static Printed printed;
     const char *title = "typed events";
-    const Input input = {{TYPED, sizeof TYPED}, {0, {NULL, 0}, 0}};
+    const Input input = {{TYPED, sizeof TYPED}, {0, {NULL, 0}, 0, {NULL, 0}}};
     const size_t count = sizeof TYPED_EVENTS / sizeof TYPED_EVENTS[0], length = sizeof TYPED_TEXT - 1;
     const Outcome typed = {WASMPRINTER_OK, {length, count, 0}};
     bool is_right = expect(print_whole(&input, MOST_EVENTS, &printed), title, "bytes after the text or the events") &&

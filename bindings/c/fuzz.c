@@ -149,7 +149,7 @@ int LLVMFuzzerTestOneInput(const uint8_t *data, size_t size) {
     }
     const size_t indent = data[1] % (sizeof INDENTS / sizeof INDENTS[0]);
     const uint32_t known = data[0] & ALL_OPTIONS;
-    const Input input = {{data + CHOICES, size - CHOICES}, {known, {INDENTS[indent].text, INDENTS[indent].len}, 0}};
+    const Input input = {{data + CHOICES, size - CHOICES}, {known, {INDENTS[indent].text, INDENTS[indent].len}, 0, {NULL, 0}}};
     check_unknown(input, (ALL_OPTIONS + 1u) << data[0] / (ALL_OPTIONS + 1));
     Outcome measured = print_text(&input, NULL, 0);
     if (measured.status != WASMPRINTER_OK) {

@@ -8,7 +8,7 @@
 #include <sys/mman.h>
 #include <unistd.h>
 
-enum { MODULE_LINES = 7, STATUSES = WASMPRINTER_UNKNOWN_OPTION + 2 };
+enum { MODULE_LINES = 7, STATUSES = WASMPRINTER_INVALID_LIST + 2 };
 
 /* A module with a type, a function, an export and a body, as in bindings/cases.txt. */
 static const uint8_t MODULE[] = {
@@ -60,6 +60,7 @@ static struct {
     size_t size;
     uint8_t *wasm;
     uint8_t *indent;
+    uint8_t *omitted;
     uint8_t *out;
     uint8_t *lines;
     uint8_t *result;
@@ -88,6 +89,7 @@ static void make_pages(void) {
     pages.size = (size_t)sysconf(_SC_PAGESIZE);
     pages.wasm = new_page();
     pages.indent = new_page();
+    pages.omitted = new_page();
     pages.out = new_page();
     pages.lines = new_page();
     pages.result = new_page();
@@ -114,6 +116,8 @@ typedef struct Objects {
     const uint8_t *indent;
     size_t indent_len;
     size_t limit;
+    const uint8_t *omitted;
+    size_t omitted_len;
     uint8_t *out;
     size_t out_len;
     WasmprinterEvent *lines;
@@ -122,9 +126,10 @@ typedef struct Objects {
 
 /* Returns the objects of a call with input at an end of its pages. */
 static Objects objects(const void *wasm, size_t wasm_len, const void *indent, size_t indent_len, End end) {
-    Objects placed = {end, NULL, wasm_len, 0, NULL, indent_len, SIZE_MAX, NULL, 0, NULL, 0};
+    Objects placed = {end, NULL, wasm_len, 0, NULL, indent_len, SIZE_MAX, NULL, 0, NULL, 0, NULL, 0};
     placed.wasm = place_input(pages.wasm, wasm, wasm_len, end);
     placed.indent = place_input(pages.indent, indent, indent_len, end);
+    placed.omitted = place_input(pages.omitted, "", 0, end);
     return placed;
 }
 
@@ -140,7 +145,7 @@ static Outcome print_objects(Objects *placed, size_t out_len, size_t lines_len) 
     memset(placed->lines, GUARD, lines_len * sizeof *placed->lines);
     *stored = outcome.stored;
     outcome.status = wasmprinter_raw_print(placed->wasm, placed->wasm_len, placed->flags, placed->indent, placed->indent_len, placed->limit,
-                                           placed->out, out_len, placed->lines, lines_len, stored);
+                                           placed->omitted, placed->omitted_len, placed->out, out_len, placed->lines, lines_len, stored);
     outcome.stored = *stored;
     prints++;
     return outcome;
@@ -267,6 +272,38 @@ static void check_indent(size_t len, End end) {
     expect(print_objects(&placed, pages.size, MODULE_LINES).status == status, "guard", "status with an indent and a limit");
 }
 
+/* A list of three names, of which the second is empty, and the lengths of the prefixes that are lists. */
+static const char LIST[] = "\2\0\0\0ab\0\0\0\0\3\0\0\0abc";
+static const size_t WHOLE_LISTS[] = {0, 6, 10, 17};
+
+/* Returns the length of the longest list that is a prefix of the list with this length. */
+static size_t whole_list(size_t len) {
+    size_t whole = 0;
+    for (size_t i = 0; i < sizeof WHOLE_LISTS / sizeof WHOLE_LISTS[0]; i++) {
+        whole = WHOLE_LISTS[i] <= len ? WHOLE_LISTS[i] : whole;
+    }
+    return whole;
+}
+
+/* Prints a module with a custom section `abc`, without the names in a prefix of the list. */
+static void check_list(size_t len, End end) {
+    static const char module[] = "\0asm\1\0\0\0\0\4\3abc", kept[] = "(module\n  (@custom \"abc\" (before first) \"\")\n)\n";
+    const size_t whole = whole_list(len);
+    Objects placed = objects(module, sizeof module - 1, "  ", 2, end);
+    placed.omitted = place_input(pages.omitted, LIST, len, end);
+    placed.omitted_len = len;
+    const Outcome outcome = print_objects(&placed, pages.size, MODULE_LINES);
+    if (whole < len) {
+        const Outcome cut = {WASMPRINTER_INVALID_LIST, {0, 0, whole}};
+        expect(is_same(outcome, cut), "guard", "outcome of a list that is cut off");
+        expect(is_unchanged(placed.out, 0, pages.size), "guard", "buffer after a list that is cut off");
+        return;
+    }
+    const char *text = len < sizeof LIST - 1 ? kept : "(module)\n";
+    expect(outcome.status == WASMPRINTER_OK && outcome.stored.length == strlen(text), "guard", "outcome with a list of names");
+    expect(is_over(placed.out, pages.size, pages.size, text, strlen(text)), "guard", "text with a list of names");
+}
+
 /* Writes the description of a status to every size of buffer. */
 static void check_error_text(WasmprinterStatus status, End end) {
     size_t length = wasmprinter_raw_error_text(status, UINT64_MAX, place(pages.out, 0, end), 0);
@@ -287,6 +324,9 @@ static void check_end(End end) {
     }
     for (size_t len = 0; len < sizeof INDENT; len++) {
         check_indent(len, end);
+    }
+    for (size_t len = 0; len < sizeof LIST; len++) {
+        check_list(len, end);
     }
     for (WasmprinterStatus status = 0; status < STATUSES; status++) {
         check_error_text(status, end);
@@ -320,6 +360,8 @@ static void check_case(Case *test_case) {
         for (int end = FIRST; end <= LAST; end++) {
             Objects placed = objects(wasm, len, indent.ptr, indent.len, (End)end);
             placed.flags = options->flags;
+            placed.omitted = place_input(pages.omitted, test_case->omitted, options->omitted.len, (End)end);
+            placed.omitted_len = options->omitted.len;
             check_rooms(test_case->title, &placed);
         }
     }

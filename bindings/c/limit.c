@@ -127,7 +127,7 @@ static void check_alloc(const Whole *whole, size_t limit, bool is_first_refused)
 
 /* Prints a module without a limit, and with limits that are less than, equal to and greater than the length of its text. */
 static void check(const char *title, WasmprinterBytes bytes, uint32_t flags) {
-    Whole whole = {title, {bytes, {flags, {NULL, 0}, 0}}, {NULL, 0}, no_outcome()};
+    Whole whole = {title, {bytes, {flags, {NULL, 0}, 0, {NULL, 0}}}, {NULL, 0}, no_outcome()};
     whole.outcome = print_alloc(&whole.input, &whole.text);
     if (expect(whole.outcome.status == WASMPRINTER_OK, title, "status without a limit")) {
         const size_t len = whole.text.len;
@@ -143,7 +143,7 @@ static void check(const char *title, WasmprinterBytes bytes, uint32_t flags) {
 
 /* Compares the text of the module, printed with the least limit that it needs. */
 static void check_typed(WasmprinterBytes bytes, size_t length) {
-    const WasmprinterOptions options = {0, {NULL, 0}, length};
+    const WasmprinterOptions options = {0, {NULL, 0}, length, {NULL, 0}};
     WasmprinterBuffer block = {NULL, 0};
     if (expect(wasmprinter_print_alloc(bytes, &options, NULL, NULL, &block, NULL) == WASMPRINTER_OK, "typed text", "status")) {
         expect(block.len == length && memcmp(block.ptr, text, length) == 0, "typed text", "text");
@@ -154,7 +154,7 @@ static void check_typed(WasmprinterBytes bytes, size_t length) {
 /* Checks that the least limit does not change another error. */
 static void check_precedence(WasmprinterBytes bytes) {
     const Outcome unknown = {WASMPRINTER_UNKNOWN_OPTION, {0, 0, ALL_OPTIONS + 1}}, no_utf8 = {WASMPRINTER_INVALID_INDENT, {0, 0, 0}};
-    Input input = {bytes, {ALL_OPTIONS + 1, {NULL, 0}, 1}};
+    Input input = {bytes, {ALL_OPTIONS + 1, {NULL, 0}, 1, {NULL, 0}}};
     expect(is_same(print_text(&input, NULL, 0), unknown), "an unknown option and a limit", "outcome");
     input.options.flags = 0;
     input.options.indent = wasmprinter_bytes("\xff", 1);

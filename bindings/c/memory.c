@@ -206,9 +206,9 @@ static void check_typed_texts(void) {
     static const char empty[] = "\0asm\1\0\0";
     static const char typed[] = "\0asm\1\0\0\0\1\4\1\x60\0";
     static const char text[] = "(module\n" INDENT "(type (;0;) (func))\n)\n";
-    const Input nothing = {{empty, sizeof empty}, {0, {INDENT, sizeof INDENT - 1}, 0}};
-    const Input flat = {{typed, sizeof typed}, {0, {INDENT, sizeof INDENT - 1}, 0}};
-    const Input folded = {{typed, sizeof typed}, {WASMPRINTER_FOLD, {INDENT, sizeof INDENT - 1}, 0}};
+    const Input nothing = {{empty, sizeof empty}, {0, {INDENT, sizeof INDENT - 1}, 0, {NULL, 0}}};
+    const Input flat = {{typed, sizeof typed}, {0, {INDENT, sizeof INDENT - 1}, 0, {NULL, 0}}};
+    const Input folded = {{typed, sizeof typed}, {WASMPRINTER_FOLD, {INDENT, sizeof INDENT - 1}, 0, {NULL, 0}}};
     check_typed("a long indent and an empty module", print_to_buffer, &nothing, "(module)\n", 1);
     check_typed("a long indent and a type", print_to_buffer, &flat, text, 2);
     check_typed("the same with lines", print_with_lines, &flat, text, 2);

@@ -63,7 +63,7 @@ static void check_unknown_options(const Case *test_case) {
     }
 }
 
-/* "Then WASMPRINTER_COMPONENT, then WASMPRINTER_INVALID_INDENT, then any other." The indents are cut off, too long or reserved, as UTF-8. */
+/* "Then WASMPRINTER_COMPONENT, then WASMPRINTER_INVALID_INDENT." The indents are cut off, too long or reserved, as UTF-8. */
 static void check_wrong_indents(const Case *test_case) {
     static const char *const indents[] = {"\xff", " \xc3", "\xe2\x82", "\xf0\x9f\x98", "\xed\xa0\x80", "\xc0\x80", "\xf4\x90\x80\x80", "\x80 "};
     const bool is_component = test_case->outcome.status == WASMPRINTER_COMPONENT;
@@ -77,15 +77,46 @@ static void check_wrong_indents(const Case *test_case) {
     }
 }
 
+/* "Then WASMPRINTER_COMPONENT, then WASMPRINTER_INVALID_INDENT, then WASMPRINTER_INVALID_LIST, then any other." Each list is cut off at this
+ * place: in a length, after it, or in a name. */
+static void check_wrong_lists(const Case *test_case) {
+    static const struct {
+        const char *list;
+        size_t len;
+        uint64_t place;
+    } lists[] = {
+        {"\1", 1, 0},
+        {"\0\0\0", 3, 0},
+        {"\1\0\0\0", 4, 0},
+        {"\3\0\0\0ab", 6, 0},
+        {"\0\0\0\0\0\0\0", 7, 4},
+        {"\1\0\0\0a\2\0\0\0b", 10, 5},
+        {"\0\1\0\0a", 5, 0},
+        {"\0\0\0\1a", 5, 0},
+        {"\xff\xff\xff\xff", 4, 0},
+        {"\0\0\0\0\0\0\0\0\xff\xff\xff\xff\0", 13, 8},
+    };
+    const WasmprinterStatus status = test_case->outcome.status;
+    const bool is_earlier = status == WASMPRINTER_COMPONENT || status == WASMPRINTER_INVALID_INDENT;
+    for (size_t i = 0; i < sizeof lists / sizeof lists[0]; i++) {
+        for (size_t limit = 0; limit <= 1; limit++) {
+            Input input = limited(test_case, limit);
+            input.options.omitted = wasmprinter_bytes(lists[i].list, lists[i].len);
+            expect_refused(test_case->title, &input, is_earlier ? refused(status, 0) : refused(WASMPRINTER_INVALID_LIST, lists[i].place));
+        }
+    }
+}
+
 /* Calls the exported function with a limit, and with lengths 0 of the buffer and of the table. */
 static Outcome print_raw(const Case *test_case, size_t limit) {
     const WasmprinterOptions *options = &test_case->input.options;
     const WasmprinterBytes indent = options->indent.ptr != NULL ? options->indent : wasmprinter_bytes("  ", 2);
+    const WasmprinterBytes list = options->omitted.ptr != NULL ? options->omitted : wasmprinter_bytes("", 0);
     Outcome outcome = no_outcome();
     memset(out, GUARD, sizeof out);
     memset(events, GUARD, sizeof events);
-    outcome.status = wasmprinter_raw_print(wasm, test_case->input.wasm.len, options->flags, (const uint8_t *)indent.ptr, indent.len, limit, out, 0,
-                                           events, 0, &outcome.stored);
+    outcome.status = wasmprinter_raw_print(wasm, test_case->input.wasm.len, options->flags, (const uint8_t *)indent.ptr, indent.len, limit,
+                                           (const uint8_t *)list.ptr, list.len, out, 0, events, 0, &outcome.stored);
     expect(is_unchanged(out, 0, sizeof out) && is_unchanged(events, 0, sizeof events), test_case->title, "object of length 0");
     calls++;
     return outcome;
@@ -112,6 +143,7 @@ static void check_greatest_limit(const Case *test_case) {
 static void check(Case *test_case) {
     check_unknown_options(test_case);
     check_wrong_indents(test_case);
+    check_wrong_lists(test_case);
     check_raw_limits(test_case);
     check_greatest_limit(test_case);
 }
@@ -124,16 +156,17 @@ static void check_shared_input(void) {
     static const char module[] = "\0asm\1\0\0\0\0\3\2  \1\4\1\x60\0";
     static const char text[] = "(module\n  (@custom \"  \" (before first) \"\")\n  (type (;0;) (func))\n)\n";
     enum { PLACE = 11 };
-    const Input input = {{module, sizeof module}, {0, {module + PLACE, 2}, 0}};
+    const Input input = {{module, sizeof module}, {0, {module + PLACE, 2}, 0, {NULL, 0}}};
     memset(out, GUARD, sizeof out);
     expect(by_print(&input).status == WASMPRINTER_OK, "an indent in the module", "status");
     expect(is_over(out, sizeof out, sizeof out, text, strlen(text)), "an indent in the module", "text");
 }
 
-/* "If the `ptr` of a module, a buffer or a table is null, it counts as empty, whatever its `len` is." */
+/* "If the `ptr` of a module, a list of names, a buffer or a table is null, it counts as empty, whatever its `len` is." */
 static void check_greatest_lengths(void) {
     static const uint8_t empty[] = {0x00, 0x61, 0x73, 0x6d, 0x01, 0x00, 0x00, 0x00};
-    const Input nothing = {{NULL, SIZE_MAX}, {0, {NULL, SIZE_MAX}, 0}}, module = {{empty, sizeof empty}, {0, {NULL, SIZE_MAX}, 0}};
+    const WasmprinterOptions options = {0, {NULL, SIZE_MAX}, 0, {NULL, SIZE_MAX}};
+    const Input nothing = {{NULL, SIZE_MAX}, options}, module = {{empty, sizeof empty}, options};
     const Outcome malformed = {WASMPRINTER_MALFORMED, {0, 0, 0}}, printed = {WASMPRINTER_OK, {strlen("(module)\n"), 1, 0}};
     WasmprinterBuffer text = {NULL, SIZE_MAX};
     expect(is_same(print_lines(&nothing, NULL, SIZE_MAX, NULL, SIZE_MAX), malformed), "null pointers", "outcome of no bytes");
@@ -143,6 +176,22 @@ static void check_greatest_lengths(void) {
     expect(wasmprinter_error_text(WASMPRINTER_OK, 0, wasmprinter_buffer(NULL, SIZE_MAX)) == strlen("success"), "null pointers", "description");
 }
 
+/* A list has any length. This one has 20001 names, of which only the last is that of a section. */
+static void check_long_list(void) {
+    static const char module[] = "\0asm\1\0\0\0\0\3\2ab\0\3\2ac", text[] = "(module\n  (@custom \"ac\" (before first) \"\")\n)\n";
+    enum { NAMES = 20000, EACH = 6 };
+    static char list[(NAMES + 1) * EACH];
+    size_t len = 0;
+    for (int i = 0; i < NAMES; i++) {
+        len = wasmprinter_add_name(wasmprinter_buffer(list, sizeof list), len, i % 2 == 0 ? "aa" : "ad", 2);
+    }
+    len = wasmprinter_add_name(wasmprinter_buffer(list, sizeof list), len, "ab", 2);
+    const Input input = {{module, sizeof module - 1}, {0, {NULL, 0}, 0, {list, len}}};
+    memset(out, GUARD, sizeof out);
+    expect(len == sizeof list && by_print(&input).status == WASMPRINTER_OK, "a long list", "status");
+    expect(is_over(out, sizeof out, sizeof out, text, strlen(text)), "a long list", "text");
+}
+
 /* An indent has any length. This one is longer than the text that is expected of the module. */
 static void check_long_indent(void) {
     static const char before[] = "(module\n", after[] = "(type (;0;) (func))\n)\n", module[] = "\0asm\1\0\0\0\1\4\1\x60\0";
@@ -150,7 +199,7 @@ static void check_long_indent(void) {
     static char indent[LEVEL];
     WasmprinterBuffer text = {NULL, 0};
     memset(indent, ' ', sizeof indent);
-    const Input input = {{module, sizeof module}, {0, {indent, sizeof indent}, 0}};
+    const Input input = {{module, sizeof module}, {0, {indent, sizeof indent}, 0, {NULL, 0}}};
     if (expect(print_alloc(&input, &text).status == WASMPRINTER_OK, "a long indent", "status")) {
         expect(text.len == strlen(before) + sizeof indent + strlen(after), "a long indent", "length");
         expect(memcmp(text.ptr + strlen(before), indent, sizeof indent) == 0, "a long indent", "indent");
@@ -164,6 +213,7 @@ int main(int argc, char **argv) {
     check_shared_input();
     check_greatest_lengths();
     check_long_indent();
+    check_long_list();
     printf(LANGUAGE ": %u cases with %u calls that are refused or at a limit, %u differences\n", cases, calls, failed);
     return failed == 0 ? 0 : 1;
 }

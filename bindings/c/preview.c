@@ -5,7 +5,7 @@
 
 /* Shows the skeleton of a module, as much of it as fits. */
 static void preview(WasmprinterBytes wasm) {
-    const WasmprinterOptions options = {WASMPRINTER_SKELETON | WASMPRINTER_NAME_UNNAMED, {NULL, 0}, 0};
+    const WasmprinterOptions options = {WASMPRINTER_SKELETON | WASMPRINTER_NAME_UNNAMED, {NULL, 0}, 0, {NULL, 0}};
     char text[500];
     WasmprinterResult result;
     WasmprinterStatus status = wasmprinter_print(wasm, &options, wasmprinter_buffer(text, sizeof text), &result);

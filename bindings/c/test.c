@@ -187,7 +187,7 @@ static void check_null(const char *title, size_t len) {
     const WasmprinterBytes no_bytes = {NULL, len};
     const WasmprinterBuffer no_text = {NULL, len};
     const WasmprinterTable no_lines = {NULL, len};
-    const WasmprinterOptions options = {0, {NULL, len}, 0};
+    const WasmprinterOptions options = {0, {NULL, len}, 0, {NULL, 0}};
     WasmprinterResult result = {GUARD, GUARD, GUARD};
     expect(wasmprinter_print(no_bytes, NULL, no_text, NULL) == WASMPRINTER_MALFORMED, title, "status of no bytes");
     expect(wasmprinter_print_lines(no_bytes, &options, no_text, no_lines, NULL) == WASMPRINTER_MALFORMED, title, "status of no bytes");
@@ -229,12 +229,22 @@ static void check_zero_byte(void) {
     check_alloc(&test_case, 0);
 }
 
-/* Checks which of two errors is returned, for a pair that no case has. */
+/* Checks which of several errors is returned, for cases that the file can't hold. */
 static void check_precedence(void) {
     static Case test_case;
     start_case(&test_case, "no bytes and an indent that is not UTF-8");
     test_case.input.options.indent = wasmprinter_bytes("\xff", 1);
     test_case.outcome.status = WASMPRINTER_INVALID_INDENT;
+    check_printing(&test_case);
+    start_case(&test_case, "no bytes, an indent that is not UTF-8 and a list that is cut off");
+    test_case.input.options.indent = wasmprinter_bytes("\xff", 1);
+    test_case.input.options.omitted = wasmprinter_bytes("\1", 1);
+    test_case.outcome.status = WASMPRINTER_INVALID_INDENT;
+    check_printing(&test_case);
+    start_case(&test_case, "no bytes and a list that is cut off");
+    test_case.input.options.omitted = wasmprinter_bytes("\1\0\0\0a\1", 6);
+    test_case.outcome.status = WASMPRINTER_INVALID_LIST;
+    test_case.outcome.stored.detail = 5;
     check_printing(&test_case);
 }
 
@@ -247,7 +257,9 @@ static void check_other_statuses(void) {
     check_error_text(title, WASMPRINTER_MEMORY, 0, "out of memory");
     check_error_text(title, WASMPRINTER_UNKNOWN_OPTION, 0x20, "unknown options 0x20");
     check_error_text(title, WASMPRINTER_UNKNOWN_OPTION, 0xffffffe0, "unknown options 0xffffffe0");
-    check_error_text(title, WASMPRINTER_UNKNOWN_OPTION + 1, 0, "unknown status");
+    check_error_text(title, WASMPRINTER_INVALID_LIST, 0, "the list of names is cut off at byte 0x0");
+    check_error_text(title, WASMPRINTER_INVALID_LIST, UINT64_MAX, "the list of names is cut off at byte 0xffffffffffffffff");
+    check_error_text(title, WASMPRINTER_INVALID_LIST + 1, 0, "unknown status");
     check_error_text(title, UINT32_MAX, 0, "unknown status");
     check_error_text(title, WASMPRINTER_MALFORMED, UINT64_MAX, "malformed module at byte 0xffffffffffffffff");
     check_error_text(title, WASMPRINTER_TOO_MANY_FUNCTIONS, UINT64_MAX, "module has 18446744073709551615 functions, more than 1000000");
@@ -269,6 +281,7 @@ static void check_status_names(void) {
         "out of memory",
         "indent is not UTF-8",
         "unknown options",
+        "list of names is cut off",
         "unknown status",
     };
     for (uint32_t status = 0; status < sizeof names / sizeof names[0]; status++) {

@@ -74,7 +74,7 @@ static void print(const Input *input) {
 
 int main(int argc, char **argv) {
     for (int i = 1; i < argc; i++) {
-        Input input = {{NULL, 0}, {0, {NULL, 0}, 0}};
+        Input input = {{NULL, 0}, {0, {NULL, 0}, 0, {NULL, 0}}};
         uint8_t *bytes = read_file(argv[i], &input.wasm.len);
         input.wasm.ptr = bytes;
         for (input.options.flags = 0; input.options.flags <= ALL_OPTIONS; input.options.flags++) {

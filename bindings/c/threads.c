@@ -56,7 +56,7 @@ static void make_module(void) {
 
 /* Prints the module with a set of options. */
 static Outcome print(uint32_t flags, WasmprinterBuffer *text) {
-    const Input input = {{module, sizeof module}, {flags, {NULL, 0}, 0}};
+    const Input input = {{module, sizeof module}, {flags, {NULL, 0}, 0, {NULL, 0}}};
     return print_alloc(&input, text);
 }
 

@@ -6,10 +6,11 @@
 #include <stdlib.h>
 
 /* The arguments of a call. Their lengths differ from each other. */
-enum { WASM_LEN = 4096, INDENT_LEN = 1024, OUT_LEN = 2048, LINES_LEN = 512, LIMIT = 8192 };
+enum { WASM_LEN = 4096, INDENT_LEN = 1024, OUT_LEN = 2048, LINES_LEN = 512, OMITTED_LEN = 256, LIMIT = 8192 };
 static const uint32_t FLAGS = 0xffffffe5; /* known and unknown options, without WASMPRINTER_EVENTS */
 static uint8_t wasm[WASM_LEN];
 static uint8_t indent[INDENT_LEN];
+static uint8_t omitted[OMITTED_LEN];
 static char out[OUT_LEN];
 static WasmprinterEvent lines[LINES_LEN];
 
@@ -25,7 +26,7 @@ typedef struct Part {
 } Part;
 
 /* The parts of a call, in the order of the arguments. */
-enum { WASM, INDENT, OUT, LINES, PARTS };
+enum { WASM, INDENT, OMITTED, OUT, LINES, PARTS };
 
 /* The most calls that a function makes. */
 enum { MOST_CALLS = 2 };
@@ -52,11 +53,12 @@ static Part part_of(const void *start, size_t len) {
 static void write_text(uint8_t *text, size_t room, size_t length) { memset(text, TEXT, length < room ? length : room); }
 
 WasmprinterStatus wasmprinter_raw_print(const uint8_t *bytes, size_t bytes_len, uint32_t flags, const uint8_t *level, size_t level_len,
-                                        size_t limit, uint8_t *text, size_t text_len, WasmprinterEvent *table, size_t table_len,
-                                        WasmprinterResult *result) {
+                                        size_t limit, const uint8_t *names, size_t names_len, uint8_t *text, size_t text_len,
+                                        WasmprinterEvent *table, size_t table_len, WasmprinterResult *result) {
     const unsigned call = received.calls++ % MOST_CALLS;
     received.parts[WASM] = part_of(bytes, bytes_len);
     received.parts[INDENT] = part_of(level, level_len);
+    received.parts[OMITTED] = part_of(names, names_len);
     received.parts[OUT] = received.buffers[call] = part_of(text, text_len);
     received.parts[LINES] = part_of(table, table_len);
     received.flags = flags;
@@ -84,7 +86,17 @@ static void answer(Outcome first, Outcome second) {
 /* ---- Null pointers */
 
 /* The parts of a call that are left out, as bits: a pointer is then null. Without lengths, all lengths and the limit are 0. */
-enum { NO_WASM = 1, NO_INDENT = 2, NO_OUT = 4, NO_LINES = 8, NO_OPTIONS = 16, NO_RESULT = 32, NO_LENGTHS = 64, COMBINATIONS = 128 };
+enum {
+    NO_WASM = 1,
+    NO_INDENT = 2,
+    NO_OUT = 4,
+    NO_LINES = 8,
+    NO_OPTIONS = 16,
+    NO_RESULT = 32,
+    NO_LENGTHS = 64,
+    NO_OMITTED = 128,
+    COMBINATIONS = 256
+};
 
 /* Checks a part that the last call received. If a null pointer was given, the part is empty, and its pointer is not null. */
 static void expect_part(int part, const void *start, size_t len, const char *function, const char *what) {
@@ -100,6 +112,11 @@ static void expect_options(const WasmprinterOptions *options, const char *functi
     } else {
         Part level = received.parts[INDENT];
         expect(level.len == 2 && memcmp(level.start, "  ", 2) == 0, function, "default indent");
+    }
+    if (options != NULL) {
+        expect_part(OMITTED, options->omitted.ptr, options->omitted.len, function, "list of names");
+    } else {
+        expect_part(OMITTED, NULL, 0, function, "empty list of names");
     }
     expect(received.flags == (options != NULL ? options->flags : 0), function, "flags");
     expect(received.limit == (options != NULL && options->limit != 0 ? options->limit : SIZE_MAX), function, "limit");
@@ -137,7 +154,10 @@ static void expect_events(const char *function) {
 static void check_print(unsigned nulls) {
     const size_t some = nulls & NO_LENGTHS ? 0 : 1;
     const WasmprinterBytes bytes = {nulls & NO_WASM ? NULL : wasm, WASM_LEN * some};
-    const WasmprinterOptions own_options = {FLAGS, {nulls & NO_INDENT ? NULL : indent, INDENT_LEN * some}, LIMIT * some};
+    const WasmprinterOptions own_options = {FLAGS,
+                                            {nulls & NO_INDENT ? NULL : indent, INDENT_LEN * some},
+                                            LIMIT * some,
+                                            {nulls & NO_OMITTED ? NULL : omitted, OMITTED_LEN * some}};
     const WasmprinterOptions *options = nulls & NO_OPTIONS ? NULL : &own_options;
     const WasmprinterBuffer text = {nulls & NO_OUT ? NULL : out, OUT_LEN * some};
     const WasmprinterTable table = {nulls & NO_LINES ? NULL : lines, LINES_LEN * some};
@@ -165,7 +185,7 @@ static void check_print(unsigned nulls) {
 /* Calls the same functions with options that choose all events. */
 static void check_events(void) {
     const WasmprinterBytes bytes = {wasm, WASM_LEN};
-    const WasmprinterOptions options = {FLAGS | WASMPRINTER_EVENTS, {indent, INDENT_LEN}, LIMIT};
+    const WasmprinterOptions options = {FLAGS | WASMPRINTER_EVENTS, {indent, INDENT_LEN}, LIMIT, {omitted, OMITTED_LEN}};
     const WasmprinterBuffer text = {out, OUT_LEN};
     const WasmprinterTable table = {lines, LINES_LEN}, no_lines = {NULL, 0};
     answer(no_outcome(), no_outcome());
@@ -175,6 +195,37 @@ static void check_events(void) {
     expect_arguments(bytes, &options, text, no_lines, "print with the option for events");
     wasmprinter_print_events(bytes, &options, text, table, NULL);
     expect_arguments(bytes, &options, text, table, "print_events with the option for events");
+}
+
+/* ---- Lists of names */
+
+/* Adds a name to a list of `len` bytes in a buffer. `list` is the list after it, or null if nothing is written. */
+static void check_add_name(size_t room, size_t len, const char *name, size_t name_len, const char *list) {
+    const size_t new_len = len + 4 + name_len;
+    memset(out, GUARD, sizeof out);
+    expect(wasmprinter_add_name(wasmprinter_buffer(out, room), len, name, name_len) == new_len, "add_name", "length");
+    if (list != NULL) {
+        expect(memcmp(out + len, list, new_len - len) == 0, "add_name", "list");
+    }
+    expect(is_unchanged(out, 0, len) && is_unchanged(out, list != NULL ? new_len : len, sizeof out), "add_name", "bytes around the name");
+    expect(wasmprinter_add_name(wasmprinter_buffer(NULL, room), len, name, name_len) == new_len, "add_name", "length for a null pointer");
+}
+
+static void check_add_names(void) {
+    static char long_name[0x201], long_list[0x205] = {1, 2, 0, 0};
+    check_add_name(5, 0, "a", 1, "\1\0\0\0a");
+    check_add_name(6, 0, "a", 1, "\1\0\0\0a");
+    check_add_name(4, 0, "a", 1, NULL);
+    check_add_name(0, 0, "a", 1, NULL);
+    check_add_name(14, 7, "a\0b", 3, "\3\0\0\0a\0b");
+    check_add_name(13, 7, "a\0b", 3, NULL);
+    check_add_name(7, 7, "a\0b", 3, NULL);
+    check_add_name(4, 0, "", 0, "\0\0\0\0");
+    check_add_name(4, 0, NULL, 0, "\0\0\0\0");
+    check_add_name(3, 0, "", 0, NULL);
+    memset(long_name, 'n', sizeof long_name);
+    memset(long_list + 4, 'n', sizeof long_name);
+    check_add_name(sizeof out, 1, long_name, sizeof long_name, long_list);
 }
 
 /* ---- Descriptions */
@@ -322,7 +373,7 @@ static void expect_text(const Scenario *scenario, WasmprinterBuffer text) {
 
 /* Makes the call of a scenario, and checks it. Options are left out only if there is no limit. */
 static void check_scenario(const Scenario *scenario, unsigned way) {
-    const WasmprinterOptions own_options = {FLAGS, {indent, INDENT_LEN}, scenario->limit};
+    const WasmprinterOptions own_options = {FLAGS, {indent, INDENT_LEN}, scenario->limit, {omitted, OMITTED_LEN}};
     const WasmprinterOptions *options = way & WITHOUT_OPTIONS && scenario->limit == 0 ? NULL : &own_options;
     Memory memory = {scenario->failing, 0, {0, 0}, way & WITHOUT_BLOCK ? NULL : malloc(LENGTH)};
     WasmprinterBuffer text = {(char *)memory.block, GUARD};
@@ -382,6 +433,7 @@ int main(void) {
         check_print(nulls);
     }
     check_events();
+    check_add_names();
     check_error_texts();
     unsigned calls = check_scenarios();
     check_rooms();

@@ -95,6 +95,7 @@ struct Case {
     std::string title;
     Options options;
     std::string indent = "  ";
+    std::vector<std::string> omitted;
     std::string wasm;
     bool has_places = false;
     std::string text;
@@ -170,6 +171,8 @@ static void read_line(const std::string &line, Case &test_case) {
         read_options(words, test_case.options);
     } else if (key == "indent") {
         test_case.indent = read_bytes(words);
+    } else if (key == "omit") {
+        test_case.omitted.push_back(line.substr(line.find(' ') == std::string::npos ? line.size() : line.find(' ') + 1));
     } else if (key == "wasm") {
         test_case.wasm += read_bytes(words);
     } else if (key == "zeros") {
@@ -273,6 +276,7 @@ static void check_with(const Case &test_case, std::size_t limit) {
     Options options = test_case.options;
     options.indent = test_case.indent;
     options.limit = limit;
+    options.omitted.assign(test_case.omitted.begin(), test_case.omitted.end());
     if (test_case.status != WASMPRINTER_OK) {
         expect_error(test_case, [&] { return wasmprinter::print(test_case.wasm, options); });
         expect_error(test_case, [&] { return wasmprinter::print_text(test_case.wasm, options); });
@@ -383,6 +387,25 @@ static void check_custom_section() {
     expect(found == 1, "a custom section", "number of events");
 }
 
+// Leaves out custom sections: `ab`, `a` and `a` with a zero byte, all without data. The events stay, each with the place of its data.
+static void check_omitted() {
+    static constexpr auto wasm = "\0asm\1\0\0\0\0\3\2ab\0\2\1a\0\3\2a\0"sv;
+    static const std::string ab = "  (@custom \"ab\" (before first) \"\")\n", a = "  (@custom \"a\" (before first) \"\")\n",
+                             zero = "  (@custom \"a\\u{0}\" (before first) \"\")\n";
+    Options options;
+    options.omitted = {"a", "abc", std::string_view()};
+    expect(wasmprinter::print(wasm, options) == "(module\n" + ab + zero + ")\n", "a name that is left out", "text");
+    options.omitted = {"b", "ab", "a\0"sv};
+    expect(wasmprinter::print(wasm, options) == "(module\n" + a + ")\n", "names that are left out", "text");
+    std::vector<std::uint64_t> places;
+    for (const WasmprinterEvent &event : wasmprinter::print_events(wasm, options)) {
+        if (event.kind == WASMPRINTER_CUSTOM_SECTION) {
+            places.push_back(event.place);
+        }
+    }
+    expect(places == std::vector<std::uint64_t>{13, 17, 22}, "names that are left out", "places of events");
+}
+
 // Prints more events than expected: each of 200 types has seven events and three bytes.
 static void check_many_events() {
     std::string wasm = "\0asm\1\0\0\0\1\xda\4\xc8\1"s;
@@ -465,11 +488,12 @@ static void check_many_lines() {
 // Prints a module with each limit to a buffer that is longer than its text. After the text, or a prefix of it, the buffer is unchanged.
 static void check_limits() {
     const std::string filler(ONE_TYPE_TEXT.size() + 2, '#');
+    const std::string no_names;
     Options options;
     for (options.limit = 1; options.limit <= filler.size(); options.limit++) {
         std::string out = filler;
         WasmprinterResult result = {1, 1, 1};
-        const WasmprinterOptions chosen = wasmprinter::detail::options_of(options);
+        const WasmprinterOptions chosen = wasmprinter::detail::options_of(options, no_names);
         const auto status = wasmprinter_print(wasmprinter_bytes(ONE_TYPE.data(), ONE_TYPE.size()), &chosen, {out.data(), out.size()}, &result);
         const bool fits = ONE_TYPE_TEXT.size() <= options.limit;
         const std::size_t held = out.find('#');
@@ -557,6 +581,7 @@ int main(int argc, char **argv) {
     check_many_lines();
     check_events();
     check_custom_section();
+    check_omitted();
     check_many_events();
     check_limits();
     check_copies();

@@ -38,6 +38,8 @@ struct Options {
     bool fold = false;              // put each operator in parentheses with its operands
     std::string_view indent = "  "; // the text of one level of nesting, in UTF-8
     std::size_t limit = 0;          // the greatest length of the text in bytes; 0: no limit
+    // The names of custom sections to leave out, as WasmprinterOptions.omitted describes.
+    std::vector<std::string_view> omitted = {};
 };
 
 // The reason why a module was not printed. what() describes it: `malformed module at byte 0x1f`.
@@ -94,9 +96,23 @@ inline std::string_view view_of(const void *bytes, std::size_t size) noexcept { 
 
 inline WasmprinterBytes bytes_of(std::string_view bytes) noexcept { return wasmprinter_bytes(bytes.data(), bytes.size()); }
 
-// Returns the options for C. An empty indent stays empty, even if its pointer is null.
-inline WasmprinterOptions options_of(const Options &options) noexcept {
-    WasmprinterOptions chosen = {0, bytes_of(options.indent.empty() ? "" : options.indent), options.limit};
+// Returns the names as a list for C. Throws std::length_error if a name has 2^32 bytes or more.
+inline std::string list_of(const std::vector<std::string_view> &names) {
+    std::string list;
+    for (const std::string_view name : names) {
+        if (name.size() > UINT32_MAX) {
+            throw std::length_error("wasmprinter: a name of a custom section has 2^32 bytes or more");
+        }
+        const std::size_t size = list.size();
+        list.resize(wasmprinter_add_name({nullptr, 0}, size, name.data(), name.size()));
+        wasmprinter_add_name({list.data(), list.size()}, size, name.data(), name.size());
+    }
+    return list;
+}
+
+// Returns the options for C with a list of names. An empty indent stays empty, even if its pointer is null.
+inline WasmprinterOptions options_of(const Options &options, const std::string &list) noexcept {
+    WasmprinterOptions chosen = {0, bytes_of(options.indent.empty() ? "" : options.indent), options.limit, bytes_of(list)};
     chosen.flags |= options.offsets ? WASMPRINTER_OFFSETS : 0;
     chosen.flags |= options.skeleton ? WASMPRINTER_SKELETON : 0;
     chosen.flags |= options.name_unnamed ? WASMPRINTER_NAME_UNNAMED : 0;
@@ -175,7 +191,8 @@ class Text {
 
 // Returns the text of a module, without a copy.
 [[nodiscard]] inline Text print_text(std::string_view wasm, const Options &options = {}) {
-    const WasmprinterOptions chosen = detail::options_of(options);
+    const std::string list = detail::list_of(options.omitted);
+    const WasmprinterOptions chosen = detail::options_of(options, list);
     WasmprinterBuffer text = {nullptr, 0};
     WasmprinterResult result = {0, 0, 0};
     const WasmprinterStatus status = wasmprinter_print_alloc(detail::bytes_of(wasm), &chosen, nullptr, nullptr, &text, &result);
@@ -254,8 +271,9 @@ class Lines {
 
 // Returns the lines of the text of a module.
 [[nodiscard]] inline Lines print_lines(std::string_view wasm, const Options &options = {}) {
+    const std::string list = detail::list_of(options.omitted);
     // Most texts have a line for every two bytes of the module, or fewer.
-    return Lines(detail::print_whole(wasm, detail::options_of(options), wasm.size() / 2 + 64));
+    return Lines(detail::print_whole(wasm, detail::options_of(options, list), wasm.size() / 2 + 64));
 }
 
 // The events of a text, with the text. The views that it returns are valid until it is destroyed, moved or assigned to.
@@ -287,7 +305,8 @@ class Events {
 
 // Returns the text of a module with all its events: the starts of lines and of styles, and the custom sections.
 [[nodiscard]] inline Events print_events(std::string_view wasm, const Options &options = {}) {
-    WasmprinterOptions chosen = detail::options_of(options);
+    const std::string list = detail::list_of(options.omitted);
+    WasmprinterOptions chosen = detail::options_of(options, list);
     chosen.flags |= WASMPRINTER_EVENTS;
     // A place at the start of a line has two events.
     return Events(detail::print_whole(wasm, chosen, wasm.size() * (options.offsets ? 4 : 2) + 64));

@@ -99,6 +99,8 @@ class Case:
         elif key == "indent":
             # bytes that are not UTF-8 have no str
             self.options["indent"] = bytes.fromhex(words).decode("utf-8", "surrogateescape")
+        elif key == "omit":
+            self.options.setdefault("omitted", []).append(words)
         elif key == "wasm":
             self.wasm += bytes.fromhex(words)
         elif key == "zeros":
@@ -215,12 +217,13 @@ class Errors(unittest.TestCase):
 
     def test_unknown_option(self):
         with self.assertRaises(wasmprinter.UnknownOption) as raised:
-            wasmprinter._print_whole(EMPTY, 0x68, b"  ", 1, 0)
+            wasmprinter._print_whole(EMPTY, 0x68, b"  ", 1, b"", 0)
         check_error(self, raised.exception, "UnknownOption", 0x60)
         self.assertEqual(str(raised.exception), "unknown options 0x60")
 
     def test_unknown_status(self):
-        for status, text in ((99, "unknown status"), (12, "the indent is not UTF-8")):
+        texts = (99, "unknown status"), (12, "the indent is not UTF-8"), (14, "the list of names is cut off at byte 0x0")
+        for status, text in texts:
             with unittest.mock.patch.object(wasmprinter, "_print", return_value=status):
                 with self.assertRaises(wasmprinter.Error) as raised:
                     wasmprinter.print_bytes(EMPTY)
@@ -254,6 +257,50 @@ class Options(unittest.TestCase):
 
     def test_indent_with_a_zero_byte(self):
         self.assertEqual(wasmprinter.print_bytes(ONE_TYPE, indent="\0é"), "(module\n\0é(type (;0;) (func))\n)\n")
+
+
+class Omitted(unittest.TestCase):
+    # custom sections without data: `ab`, `a`, and U+00E9 in UTF-8
+    WASM = EMPTY + b"\0\3\2ab" + b"\0\2\1a" + b"\0\3\2\xc3\xa9"
+    LINES = '  (@custom "ab" (before first) "")\n', '  (@custom "a" (before first) "")\n', '  (@custom "\\u{e9}" (before first) "")\n'
+
+    def text(self, *kept):
+        return "(module\n" + "".join(self.LINES[index] for index in kept) + ")\n"
+
+    def test_names(self):
+        for omitted, kept in (
+            ((), (0, 1, 2)),
+            (["a"], (0, 2)),
+            ({"ab"}, (1, 2)),
+            (("\u00e9", b"ab"), (1,)),
+            ((bytearray(b"\xc3\xa9"), memoryview(b"a")), (0,)),
+            (iter(["", "b", "ab", "a"]), (2,)),
+            (["\xc3", b"\xc3", "abc"], (0, 1, 2)),
+        ):
+            with self.subTest(omitted):
+                self.assertEqual(wasmprinter.print_bytes(self.WASM, omitted=omitted), self.text(*kept))
+
+    def test_no_section(self):
+        for function in FUNCTIONS:
+            printed = function(self.WASM, omitted=["a", "ab", "\u00e9"])
+            text = printed if isinstance(printed, str) else "".join(part.text for part in printed)
+            self.assertEqual(SEQUENCE.sub("", text), "(module)\n")
+
+    def test_events(self):
+        """The event of a section that is left out stays."""
+        for omitted in ([], ["a", "ab"]):
+            events = wasmprinter.print_events(self.WASM, omitted=omitted)
+            self.assertEqual([event.place for event in events if event.kind == Kind.CUSTOM_SECTION], [13, 17, 22])
+
+    def test_no_names(self):
+        for omitted in ("a", b"a", bytearray(b"a"), memoryview(b"a")):
+            with self.subTest(omitted), self.assertRaisesRegex(TypeError, "omitted must have names, and not be a"):
+                wasmprinter.print_bytes(EMPTY, omitted=omitted)
+        for name in (1, None, ["a"], True):
+            with self.subTest(name), self.assertRaisesRegex(TypeError, "a name in omitted must be a str or bytes-like, not"):
+                wasmprinter.print_bytes(EMPTY, omitted=[name])
+        with self.assertRaises(TypeError):
+            wasmprinter.print_bytes(EMPTY, omitted=1)
 
 
 class Limits(unittest.TestCase):
@@ -294,7 +341,7 @@ class Limits(unittest.TestCase):
         room = len(text) + 2
         for limit in range(room + 1):
             out, table, result = (ctypes.c_uint8 * room)(*b"#" * room), ctypes.c_uint8(), wasmprinter._Result()
-            status = wasmprinter._print(ONE_TYPE, len(ONE_TYPE), 0, b"  ", 2, limit, out, room, table, 0, result)
+            status = wasmprinter._print(ONE_TYPE, len(ONE_TYPE), 0, b"  ", 2, limit, b"", 0, out, room, table, 0, result)
             held = bytes(out).index(b"#")
             if limit < len(text):
                 self.assertEqual((status, result.length, result.count, result.detail), (10, 0, 0, 0))
@@ -310,7 +357,7 @@ class Limits(unittest.TestCase):
             with unittest.mock.patch.object(wasmprinter, "_print", wraps=wasmprinter._print) as function:
                 wasmprinter.print_bytes(ONE_TYPE, limit=limit)
             self.assertEqual(function.call_count, 1)
-            self.assertEqual(function.call_args[0][7], room)
+            self.assertEqual(function.call_args[0][9], room)
 
 
 class Lines(unittest.TestCase):
@@ -420,7 +467,7 @@ class Memory(unittest.TestCase):
         for print_module, lines in ((wasmprinter.print_bytes, 0), (wasmprinter.print_lines, 330), (wasmprinter.print_events, 1130)):
             with unittest.mock.patch.object(wasmprinter, "_print", wraps=wasmprinter._print) as function:
                 print_module(ONE_TYPE)
-            out_len, lines_len = function.call_args[0][7], function.call_args[0][9]
+            out_len, lines_len = function.call_args[0][9], function.call_args[0][11]
             self.assertEqual((out_len, lines_len), (4264, lines))
 
     def failing(self, longest):

@@ -33,7 +33,7 @@ static const int has_allocated = 1;
 
 int main(void) {
     /* The library allocates for a copy of the indent. The zero byte of the literal below is the last one of the module. */
-    const WasmprinterOptions options = {0, {"                                        ", 40}, 0};
+    const WasmprinterOptions options = {0, {"                                        ", 40}, 0, {NULL, 0}};
     WasmprinterBuffer text = {NULL, 0};
     WasmprinterStatus status = wasmprinter_print_alloc(wasmprinter_bytes("\0asm\1\0\0", 8), &options, NULL, NULL, &text, NULL);
     if (status == WASMPRINTER_OK && wasmprinter_version() == WASMPRINTER_VERSION && has_allocated) {

@@ -20,9 +20,10 @@ size_t rattle_over(uint8_t *out, size_t out_len, const char *text) {
 }
 
 WasmprinterStatus wasmprinter_raw_print(const uint8_t *wasm, size_t wasm_len, uint32_t flags, const uint8_t *indent, size_t indent_len,
-                                        size_t limit, uint8_t *out, size_t out_len, WasmprinterEvent *table, size_t table_len,
-                                        WasmprinterResult *result) {
-    (void)wasm, (void)wasm_len, (void)flags, (void)indent, (void)indent_len, (void)limit, (void)table, (void)table_len;
+                                        size_t limit, const uint8_t *omitted, size_t omitted_len, uint8_t *out, size_t out_len,
+                                        WasmprinterEvent *table, size_t table_len, WasmprinterResult *result) {
+    (void)wasm, (void)wasm_len, (void)flags, (void)indent, (void)indent_len, (void)limit, (void)omitted, (void)omitted_len, (void)table;
+    (void)table_len;
     result->length = rattle_over(out, out_len, "(module)\n");
     result->count = 1;
     result->detail = 0;

@@ -14,6 +14,8 @@ Options of the functions that print:
 - fold puts each operator in parentheses with its operands.
 - indent is the text of one level of nesting, or a number of spaces.
 - limit is the greatest length of the text in bytes, or None. TooLong is raised for a longer text.
+- omitted has the names of custom sections to leave out, each a str or bytes-like. The names in a section `name` and the hints in a section
+  `metadata.code.branch_hint` apply even if it is left out.
 """
 
 from __future__ import annotations
@@ -24,7 +26,7 @@ import itertools
 import mmap
 import os
 import struct
-from typing import Any, ClassVar, Dict, Iterator, NamedTuple, Optional, Tuple, Type, Union
+from typing import Any, ClassVar, Dict, Iterable, Iterator, NamedTuple, Optional, Tuple, Type, Union
 
 __all__ = [
     "print_bytes", "print_file", "print_lines", "print_events", "print_ansi", "version", "revision", "BytesLike", "Line", "Event", "Kind", "Error",
@@ -132,7 +134,7 @@ class FoldHint(_PlacedError, status=7):
 
 
 class DylinkSubsection(Error, status=8):
-    """A `dylink.0` section has an unknown subsection."""
+    """A `dylink.0` section that is not left out has an unknown subsection."""
 
     @property
     def id(self) -> int:
@@ -255,6 +257,7 @@ _print = _function(
     ctypes.c_uint32,
     ctypes.c_char_p, ctypes.c_size_t,
     ctypes.c_size_t,
+    ctypes.c_char_p, ctypes.c_size_t,
     ctypes.POINTER(ctypes.c_uint8), ctypes.c_size_t,
     ctypes.POINTER(ctypes.c_uint8), ctypes.c_size_t,
     ctypes.POINTER(_Result),
@@ -303,6 +306,21 @@ def _limit_of(limit: Optional[int]) -> int:
     return min(limit, _SIZE_MAX)
 
 
+def _list_of(omitted: Iterable[Union[str, BytesLike]]) -> bytes:
+    """Returns the names as a list for the library. Raises TypeError if they are one str or bytes-like, or if a name is neither."""
+    if isinstance(omitted, (str, bytes, bytearray, memoryview)):
+        raise TypeError(f"omitted must have names, and not be a {type(omitted).__name__} itself")
+    parts = []
+    for name in omitted:
+        if isinstance(name, str):
+            name = name.encode("utf-8")
+        elif not isinstance(name, (bytes, bytearray, memoryview)):
+            raise TypeError(f"a name in omitted must be a str or bytes-like, not {type(name).__name__}")
+        name = bytes(name)
+        parts.append(struct.pack("<I", len(name)) + name)
+    return b"".join(parts)
+
+
 def _allocate(size: int) -> Union[mmap.mmap, bytes]:
     """Returns memory of this size, or empty bytes if that fails. Pages that are not written to take no memory."""
     try:
@@ -316,7 +334,9 @@ def _first(memory: Union[mmap.mmap, bytes]) -> ctypes.c_uint8:
     return ctypes.c_uint8() if isinstance(memory, bytes) else ctypes.c_uint8.from_buffer(memory)
 
 
-def _print_whole(data: BytesLike, flags: int, indent: bytes, limit: int, text_per_entry: int) -> Tuple[memoryview, memoryview]:
+def _print_whole(
+    data: BytesLike, flags: int, indent: bytes, limit: int, names: bytes, text_per_entry: int,
+) -> Tuple[memoryview, memoryview]:
     """Returns the text in UTF-8, and the table of its lines or events, which is empty if it is not needed. Raises a subclass of Error.
 
     An entry of the table is expected for `text_per_entry` bytes of the text. If it is 0, the table is not needed. Nearly every module is printed
@@ -329,7 +349,7 @@ def _print_whole(data: BytesLike, flags: int, indent: bytes, limit: int, text_pe
     result = _Result()
     while True:
         status = _print(
-            wasm, len(wasm), flags, indent, len(indent), limit,
+            wasm, len(wasm), flags, indent, len(indent), limit, names, len(names),
             _first(text), len(text), _first(table), len(table) // _EVENT.size, result,
         )
         if status != _SUCCESS:
@@ -345,61 +365,66 @@ def _print_whole(data: BytesLike, flags: int, indent: bytes, limit: int, text_pe
 def print_bytes(
     data: BytesLike, *,
     offsets: bool = False, skeleton: bool = False, name_unnamed: bool = False, fold: bool = False, indent: Union[str, int] = "  ",
-    limit: Optional[int] = None,
+    limit: Optional[int] = None, omitted: Iterable[Union[str, BytesLike]] = (),
 ) -> str:
     """Returns the text of a module. Raises a subclass of Error if it can't be printed."""
     flags = _flags_of(offsets=offsets, skeleton=skeleton, name_unnamed=name_unnamed, fold=fold)
-    text, _ = _print_whole(data, flags, _indent_of(indent), _limit_of(limit), 0)
+    text, _ = _print_whole(data, flags, _indent_of(indent), _limit_of(limit), _list_of(omitted), 0)
     return str(text, "utf-8")
 
 
 def print_file(
     path: Union[str, os.PathLike[str]], *,
     offsets: bool = False, skeleton: bool = False, name_unnamed: bool = False, fold: bool = False, indent: Union[str, int] = "  ",
-    limit: Optional[int] = None,
+    limit: Optional[int] = None, omitted: Iterable[Union[str, BytesLike]] = (),
 ) -> str:
     """Returns the text of the module in a file. Raises OSError if the file can't be read, or a subclass of Error."""
     with open(os.fspath(path), "rb") as file:
         data = file.read()
-    return print_bytes(data, offsets=offsets, skeleton=skeleton, name_unnamed=name_unnamed, fold=fold, indent=indent, limit=limit)
+    return print_bytes(
+        data, offsets=offsets, skeleton=skeleton, name_unnamed=name_unnamed, fold=fold, indent=indent, limit=limit, omitted=omitted,
+    )
 
 
 def print_lines(
     data: BytesLike, *,
     offsets: bool = False, skeleton: bool = False, name_unnamed: bool = False, fold: bool = False, indent: Union[str, int] = "  ",
-    limit: Optional[int] = None,
+    limit: Optional[int] = None, omitted: Iterable[Union[str, BytesLike]] = (),
 ) -> Iterator[Line]:
     """Prints a module, and returns an iterator over the lines of its text. Raises a subclass of Error if the module can't be printed.
 
     The iterator keeps the text and a table of 24 bytes for each line. It makes each Line when it returns it.
     """
     flags = _flags_of(offsets=offsets, skeleton=skeleton, name_unnamed=name_unnamed, fold=fold)
-    return (Line(place, text) for _, place, text in _events(*_print_whole(data, flags, _indent_of(indent), _limit_of(limit), _TEXT_PER_LINE)))
+    printed = _print_whole(data, flags, _indent_of(indent), _limit_of(limit), _list_of(omitted), _TEXT_PER_LINE)
+    return (Line(place, text) for _, place, text in _events(*printed))
 
 
 def print_events(
     data: BytesLike, *,
     offsets: bool = False, skeleton: bool = False, name_unnamed: bool = False, fold: bool = False, indent: Union[str, int] = "  ",
-    limit: Optional[int] = None,
+    limit: Optional[int] = None, omitted: Iterable[Union[str, BytesLike]] = (),
 ) -> Iterator[Event]:
     """Prints a module, and returns an iterator over all events of its text. Raises a subclass of Error if the module can't be printed.
 
     The iterator keeps the text and a table of 24 bytes for each event. It makes each Event when it returns it.
     """
     flags = _flags_of(offsets=offsets, skeleton=skeleton, name_unnamed=name_unnamed, fold=fold) | _EVENTS
-    return _events(*_print_whole(data, flags, _indent_of(indent), _limit_of(limit), _TEXT_PER_EVENT))
+    return _events(*_print_whole(data, flags, _indent_of(indent), _limit_of(limit), _list_of(omitted), _TEXT_PER_EVENT))
 
 
 def print_ansi(
     data: BytesLike, *,
     offsets: bool = False, skeleton: bool = False, name_unnamed: bool = False, fold: bool = False, indent: Union[str, int] = "  ",
-    limit: Optional[int] = None,
+    limit: Optional[int] = None, omitted: Iterable[Union[str, BytesLike]] = (),
 ) -> str:
     """Returns the text of a module with ANSI escape sequences for colors. Raises a subclass of Error if it can't be printed.
 
     Folded operators have no colors. The limit is that of the text without escape sequences.
     """
-    events = print_events(data, offsets=offsets, skeleton=skeleton, name_unnamed=name_unnamed, fold=fold, indent=indent, limit=limit)
+    events = print_events(
+        data, offsets=offsets, skeleton=skeleton, name_unnamed=name_unnamed, fold=fold, indent=indent, limit=limit, omitted=omitted,
+    )
     return "".join(_SEQUENCES.get(kind, "") + text for kind, _, text in events)
 
 

@@ -39,7 +39,7 @@ pub enum Error {
         /// The place of the branch hint.
         place: u64,
     },
-    /// A `dylink.0` section has an unknown subsection.
+    /// A `dylink.0` section that is not left out has an unknown subsection.
     DylinkSubsection {
         /// The id of the first one.
         id: u8,
@@ -210,6 +210,10 @@ mod tests {
     fn describes_other_statuses() {
         assert_eq!(Error::of(12, 0).to_string(), "the indent is not UTF-8");
         assert_eq!(Error::of(13, 48).to_string(), "unknown options 0x30");
+        assert_eq!(
+            Error::of(14, 31).to_string(),
+            "the list of names is cut off at byte 0x1f"
+        );
         assert_eq!(Error::of(99, 7).to_string(), "unknown status");
         assert_eq!(
             Error::of(99, 7),

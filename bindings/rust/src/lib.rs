@@ -79,6 +79,8 @@ pub struct Config {
     flags: u32,
     indent: String,
     limit: usize,
+    /// The list of names of custom sections to leave out, as the library reads it.
+    omitted: Vec<u8>,
 }
 
 impl Default for Config {
@@ -88,12 +90,13 @@ impl Default for Config {
 }
 
 impl Config {
-    /// Returns the defaults: every option is off, the indent is two spaces, and the text has no limit.
+    /// Returns the defaults: every option is off, the indent is two spaces, the text has no limit, and no custom section is left out.
     pub fn new() -> Config {
         Config {
             flags: 0,
             indent: "  ".to_owned(),
             limit: usize::MAX,
+            omitted: Vec::new(),
         }
     }
 
@@ -133,6 +136,34 @@ impl Config {
     /// ```
     pub fn limit(&mut self, bytes: Option<usize>) -> &mut Self {
         self.limit = bytes.unwrap_or(usize::MAX);
+        self
+    }
+
+    /// Sets the names of custom sections to leave out, in place of those of earlier calls. Names are equal if their bytes are. The names in
+    /// a section `name` and the hints in a section `metadata.code.branch_hint` apply even if it is left out.
+    ///
+    /// ```
+    /// // a custom section `ab` without data
+    /// let wasm = b"\0asm\x01\0\0\0\0\x03\x02ab";
+    /// let text = wasmprinter::Config::new().omit_custom_sections(["ab"]).print_to_string(wasm)?;
+    /// assert_eq!(text, "(module)\n");
+    /// # Ok::<(), wasmprinter::Error>(())
+    /// ```
+    ///
+    /// # Panics
+    ///
+    /// Panics if a name has 2^32 bytes or more.
+    pub fn omit_custom_sections<N: AsRef<[u8]>>(
+        &mut self,
+        names: impl IntoIterator<Item = N>,
+    ) -> &mut Self {
+        self.omitted.clear();
+        for name in names {
+            let name = name.as_ref();
+            let len = u32::try_from(name.len()).expect("a name has less than 2^32 bytes");
+            self.omitted.extend_from_slice(&len.to_le_bytes());
+            self.omitted.extend_from_slice(name);
+        }
         self
     }
 
@@ -310,6 +341,8 @@ impl Config {
                 self.indent.as_ptr(),
                 self.indent.len(),
                 self.limit,
+                self.omitted.as_ptr(),
+                self.omitted.len(),
                 out.as_mut_ptr().cast(),
                 out.len(),
                 table.as_mut_ptr().cast(),

@@ -81,6 +81,8 @@ impl Print for Lines {
 struct Case {
     title: String,
     config: Config,
+    /// The names of custom sections to leave out.
+    omitted: Vec<String>,
     /// The indent is not UTF-8, so it has no `String`.
     is_unprintable: bool,
     wasm: Vec<u8>,
@@ -104,6 +106,10 @@ impl Case {
                 Ok(indent) => drop(self.config.indent_text(indent)),
                 Err(_) => self.is_unprintable = true,
             },
+            "omit" => {
+                self.omitted.push(words.to_owned());
+                self.config.omit_custom_sections(&self.omitted);
+            }
             "wasm" => self.wasm.extend(bytes_of(words)),
             "zeros" => {
                 let zeros: usize = words.parse().expect("a number");

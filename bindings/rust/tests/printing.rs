@@ -202,6 +202,36 @@ fn prints_with_a_limit_and_without() {
     assert_eq!(printed.as_deref(), Ok("(module)\n"));
 }
 
+/// Custom sections without data: `ab`, `a`, and one whose name is U+00E9.
+const SECTIONS: &[u8] = b"\0asm\x01\0\0\0\0\x03\x02ab\0\x02\x01a\0\x03\x02\xc3\xa9";
+
+/// Each call replaces the names of the call before.
+#[test]
+fn leaves_out_custom_sections() {
+    let [ab, a, e] = [
+        "  (@custom \"ab\" (before first) \"\")\n",
+        "  (@custom \"a\" (before first) \"\")\n",
+        "  (@custom \"\\u{e9}\" (before first) \"\")\n",
+    ];
+    let mut config = Config::new();
+    config.omit_custom_sections(["a", "abc", "b"]);
+    let printed = config.print_to_string(SECTIONS);
+    assert_eq!(printed, Ok(format!("(module\n{ab}{e})\n")));
+    config.omit_custom_sections(["", "\u{e9}", "ab"]);
+    let printed = config.print_to_string(SECTIONS);
+    assert_eq!(printed, Ok(format!("(module\n{a})\n")));
+    config.omit_custom_sections([b"ab".to_vec(), b"\xc3".to_vec()]);
+    let printed = config.clone().print_to_string(SECTIONS);
+    assert_eq!(printed, Ok(format!("(module\n{a}{e})\n")));
+    let mut storage = String::new();
+    let lines = config.offsets_and_lines(SECTIONS, &mut storage);
+    let lines: Vec<_> = lines.expect("a module").map(|line| line.1).collect();
+    assert_eq!(lines, ["(module\n", a, e, ")\n"]);
+    config.omit_custom_sections([""; 0]);
+    let printed = config.print_to_string(SECTIONS);
+    assert_eq!(printed, Ok(format!("(module\n{ab}{a}{e})\n")));
+}
+
 /// The limit is less than the length of the first buffer, greater than it, or much greater.
 #[test]
 fn stops_before_a_long_text() {

@@ -1,5 +1,5 @@
 -- Worked rows of the flags: the options that they choose, and their unknown bits.
-use Rattle.std.proofs.Common.{◌≡◌, refl}
+use Rattle.std.proofs.Common.{◌≡◌, [], refl}
 use Rattle.std.specs.Prelude.{true, false, codes}
 use Rattle.wasmprinter_spec.specs.Options.{defaults}
 use Rattle.wasmprinter_c.specs.Printing.{options_of, request_of, unknown_bits}
@@ -26,10 +26,10 @@ all_options = refl
 events : options_of 16 defaults.indent ≡ defaults
 events = refl
 
-all_events : (request_of 16 defaults.indent 0).all_events ≡ true
+all_events : (request_of 16 defaults.indent 0 []).all_events ≡ true
 all_events = refl
 
-lines_alone : (request_of 15 defaults.indent 0).all_events ≡ false
+lines_alone : (request_of 15 defaults.indent 0 []).all_events ≡ false
 lines_alone = refl
 
 -- The bits 0 to 4 are known, and the bits from 5 on are not.

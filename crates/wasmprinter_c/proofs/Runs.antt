@@ -1,24 +1,32 @@
 -- The state of a printer over a buffer after calls that succeed.
 use Rattle.std.proofs.Common.{◌≡◌, ℕ, ◌+◌, ◌^◌, ◌≤◌, ◌<◌, List, [], ◌∷◌, ◌++◌, length, map, refl, sym, ap, ◌∙◌, subst, append_assoc, append-nil, length-append, arith}
-use Rattle.std.specs.Prelude.{Bool, false, Result, Ok, Err, OnOk}
+use Rattle.std.specs.Prelude.{Bool, false, Some, None, slice_get, Result, Ok, Err, OnOk}
+use Rattle.std.specs.List.{AllByRecursion}
 use Rattle.wasmprinter_bytes.specs.declared.library_error.Error.{Error}
 use Rattle.wasmprinter_spec.specs.Call.{Call, Text, Newline, Line, Start, Claim, IsUnclaimed, text_of, atoms}
 use Rattle.wasmprinter_spec.specs.Lines.{TextLine, lines_of, joined_lines, line_places, hint_places, HasFunctionLines}
 use Rattle.wasmprinter_spec.specs.Meaning.{Run}
-use Rattle.wasmprinter_spec.specs.Options.{Options, with_color}
-use Rattle.wasmprinter_spec.specs.Placed.{PlacedModule}
-use Rattle.wasmprinter_spec.specs.Layout.{layout}
+use Rattle.wasmprinter_spec.specs.Options.{Options, Answers, with_color}
+use Rattle.wasmprinter_spec.specs.Placed.{PlacedFunction, PlacedModule}
+use Rattle.wasmprinter_spec.specs.Layout.{layout, refusal}
+use Rattle.wasmprinter_spec.specs.Folding.Refusals.{IsFoldable}
 use Rattle.wasmprinter_spec.proofs.Texts.{alike_texts}
 use Rattle.wasmprinter_laws.proofs.Lines.Starts.{lines_join}
 use Rattle.wasmprinter_laws.proofs.Lines.FunctionLines.{function_lines}
 use Rattle.wasmprinter_writers.specs.Cuts.{lines_at_starts}
-use Rattle.wasmprinter_writers.specs.declared.line_iterator.LineStart.{LineStart}
 use Rattle.wasmprinter_print.specs.Change.{Change, change}
+use Rattle.wasmprinter_laws.proofs.Main.{reads_back, prints_plain_text}
+use Rattle.wasmprinter_laws.proofs.Hints.Kept.{hints_stay}
+use Rattle.wasmprinter.specs.Decoded.{Decoded}
 use Rattle.wasmprinter.specs.Printed.{Printed, no_claims}
-use Rattle.wasmprinter.proofs.Texts.{IsPlainly, plainly_printed, module_text}
+use Rattle.wasmprinter.proofs.Claims.{IsSame, alike_unclaimed, unclaimed_layout}
+use Rattle.wasmprinter.proofs.Headline.{foldable_in}
+use Rattle.wasmprinter.proofs.Texts.{module_text}
 use Rattle.wasmprinter_c.specs.Over.{over, over_from}
 use Rattle.wasmprinter_c.specs.Copied.{Grows, Records, CopiedAfter, copied_meaning}
-use Rattle.wasmprinter_c.specs.Printing.{request, buffers, HasEventsOver}
+use Rattle.wasmprinter_c.specs.Omitted.{IsListOf, answers_for, IsAnsweredFor}
+use Rattle.wasmprinter_c.specs.Without.{IsTextWithout}
+use Rattle.wasmprinter_c.specs.Printing.{request, buffers, HasAllSections, HasEventsOver}
 use Rattle.wasmprinter_c.specs.Events.{call_events, events, line_start, line_starts}
 use Rattle.wasmprinter_c.specs.declared.buffer_and_event_printer.WasmprinterEvent.{WasmprinterEvent}
 use Rattle.wasmprinter_c.specs.declared.buffer_and_event_printer.Copier.{Copier}
@@ -26,17 +34,41 @@ use Rattle.wasmprinter_c.proofs.Overs.{over_more}
 use Rattle.wasmprinter_c.proofs.Cuts.{lines-cut}
 use Rattle.wasmprinter_c.proofs.OnlyLines.{only-lines}
 use Rattle.wasmprinter_c.proofs.Bounds.{layout_lines}
+use Rattle.wasmprinter_c.proofs.NameLists.{no_names}
+use Rattle.wasmprinter_c.proofs.Answered.{AreAnswered, alike_answered, IsLayoutFor, answered_layout}
 
 -- The change of a printer over a buffer.
 abbrev pub copying : Copier → Copier → Change Copier
 copying old new = change copied_meaning old new
 
-pub claims_never : (s : Copier) (c : Call) (t : Copier) → CopiedAfter s c t → IsUnclaimed c
-claims_never s (Text bytes) t h = tt
-claims_never s Newline t h = tt
-claims_never s (Line place) t h = tt
-claims_never s (Start style) t h = tt
-claims_never s (Claim name place bytes answer) t h = h.0
+-- Each call answers by the printer's list of names, and keeps the list.
+call_answered : (names : List (List ℕ)) (s : Copier) (c : Call) (t : Copier) → CopiedAfter s c t → IsListOf names s.omitted.now → IsAnsweredFor names c
+call_answered names s (Text bytes) t h l = tt
+call_answered names s Newline t h l = tt
+call_answered names s (Line place) t h l = tt
+call_answered names s (Start style) t h l = tt
+call_answered names s (Claim name place bytes answer) t h l = h.0 names l
+
+grown_list : (s t : Copier) (y : List ℕ) → Grows s y t → t.omitted ≡ s.omitted
+grown_list s t y (same, written, counted, small, short, limit, omitted, choice, table, count) = omitted
+
+recorded_list : (s t : Copier) (es : List WasmprinterEvent) → Records s es t → t.omitted ≡ s.omitted
+recorded_list s t es (out, written, limit, omitted, choice, same, begun) = omitted
+
+same_list : (s : Copier) (c : Call) (t : Copier) → CopiedAfter s c t → t.omitted ≡ s.omitted
+same_list s (Text bytes) t h = grown_list s t bytes h
+same_list s Newline t h = grown_list s t (10 ∷ []) h
+same_list s (Line place) t h = recorded_list s t (call_events s.all_events s.written (Line place)) h
+same_list s (Start style) t h = recorded_list s t (call_events s.all_events s.written (Start style)) h
+same_list s (Claim name place bytes answer) t h = recorded_list s t (call_events s.all_events s.written (Claim name place bytes answer)) h.1
+
+-- A run answers each claim by the printer's list of names.
+pub run_answered : (names : List (List ℕ)) (s t : Copier) (cs : List Call) → IsListOf names s.omitted.now → Run copied_meaning s cs t → AreAnswered names cs
+run_answered names s t [] l r = tt
+run_answered names s t (c ∷ cs) l (between, called, rest) = (
+  call_answered names s c between called.step l,
+  run_answered names between t cs (subst (λ (o : _). IsListOf names o.now) (sym (same_list s c between called.step)) l) rest,
+)
 
 -- This text was written over the buffer of a printer to which nothing had been printed. These events were written
 -- over its table, if they can be counted.
@@ -53,7 +85,7 @@ pub record HasCopied (old : Copier) (text : List ℕ) (table : List WasmprinterE
 
 -- A further text is appended to what was written.
 copied_text : (old s t : Copier) (x y : List ℕ) (es : List WasmprinterEvent) → HasCopied old x es s → Grows s y t → HasCopied old (x ++ y) es t
-copied_text old s t x y es h (same, written, counted, small, short, limit, choice, table, count) = record {
+copied_text old s t x y es h (same, written, counted, small, short, limit, omitted, choice, table, count) = record {
   same_buffer = same ∙ h.same_buffer;
   copied = written ∙ ap (λ (n : ℕ). over_from n y s.out.now) h.counted ∙ ap (λ (o : List ℕ). over_from (length x) y o) h.copied
       ∙ over_more x y old.out.now;
@@ -70,7 +102,7 @@ copied_text old s t x y es h (same, written, counted, small, short, limit, choic
 
 -- Further events are appended to the table.
 copied_events : (old s t : Copier) (x : List ℕ) (es fs : List WasmprinterEvent) → HasCopied old x es s → Records s fs t → HasCopied old x (es ++ fs) t
-copied_events old s t x es fs h (out, written, limit, choice, same, begun) = record {
+copied_events old s t x es fs h (out, written, limit, omitted, choice, same, begun) = record {
   same_buffer = ap (λ o. o.ghost_name) out ∙ h.same_buffer;
   copied = ap (λ o. o.now) out ∙ h.copied;
   counted = written ∙ h.counted;
@@ -178,50 +210,125 @@ module _ (all : Bool) where
 
 -- ---- A module that was printed completely
 
-pub printed_over : (o : Options) (bytes : List ℕ) (old new : Copier) → IsFresh old → Printed (copying old new) false o bytes →
-    HasEventsOver (request o old.all_events old.limit) bytes (buffers old.out.now new.out.now old.table.now new.table.now) new.written new.count
-printed_over o bytes old new fresh v =
+-- The text of the layout in which the sections with these names are claimed is that of the module without them.
+abbrev text_without : (names : List (List ℕ)) (o : Options) {bytes : List ℕ} (d : Decoded bytes) → IsFoldable o d.placed →
+    refusal (with_color o false) (answers_for names d.placed) d.placed ≡ None → IsTextWithout names o bytes (text_of (layout (with_color o false) (answers_for names d.placed) d.placed))
+text_without names o {bytes} d foldable accepted =
     let by : Options = with_color o false in
+    let placed : PlacedModule = d.placed in
+    let answers : Answers = answers_for names placed in
+    let can_fold : IsFoldable by placed = foldable_in o false placed foldable in
+    record {
+      decoded = d;
+      foldable = foldable;
+      accepted = accepted;
+      is = refl;
+      plain = λ spaces. prints_plain_text bytes placed by answers d.spelled refl spaces;
+      reads = λ indexed whole spaces none. reads_back bytes placed by answers d.spelled indexed d.within.tables whole refl spaces none can_fold accepted;
+      hints = λ hs whole spaces given. hints_stay bytes placed by answers hs d.spelled whole refl spaces can_fold accepted given;
+    }
+
+-- Calls that are answered by no names claim no section.
+answered_none : (c : Call) → IsAnsweredFor [] c → IsUnclaimed c
+answered_none (Text s) h = tt
+answered_none Newline h = tt
+answered_none (Line place) h = tt
+answered_none (Start style) h = tt
+answered_none (Claim name place bytes answer) h = h
+
+unclaimed : (cs : List Call) → AreAnswered [] cs → AllByRecursion IsUnclaimed cs
+unclaimed [] h = tt
+unclaimed (c ∷ cs) h = (answered_none c h.0, unclaimed cs h.1)
+
+module _ (all : Bool) (o : Options) {bytes : List ℕ} (d : Decoded bytes) where
+  abbrev by : Options
+  by = with_color o false
+
+  -- The calls of the layout with these answers, and their events.
+  abbrev laid_by : Answers → List Call
+  laid_by answers = layout by answers d.placed
+
+  abbrev table_by : Answers → List WasmprinterEvent
+  table_by answers = events all 0 (laid_by answers)
+
+  -- The text of the layout, cut where the lines of its events start, has the lines of the layout.
+  lines-are : (answers : Answers) → lines_at_starts (line_starts (table_by answers)) (text_of (laid_by answers)) ≡ lines_of (laid_by answers)
+  lines-are answers =
+      ap (λ (l : List WasmprinterEvent). lines_at_starts (map line_start l) (text_of (laid_by answers))) (only-lines all 0 (laid_by answers)) ∙ lines-cut [] (laid_by answers)
+
+  -- Each function has its lines in them.
+  lines-functions : (answers : Answers) → refusal by answers d.placed ≡ None → o.skeleton ≡ false → o.folds ≡ false → (i : ℕ) (f : PlacedFunction) →
+      slice_get d.placed.functions i ≡ Some f →
+      HasFunctionLines (hint_places d.placed) (line_places (lines_at_starts (line_starts (table_by answers)) (text_of (laid_by answers)))) f
+  lines-functions answers accepted whole flat i f e =
+      subst (λ (ls : List TextLine). HasFunctionLines (hint_places d.placed) (line_places ls) f) (sym (lines-are answers))
+      (function_lines bytes d.placed by answers d.spelled whole flat accepted i f e)
+
+  -- The text, lines and events of the layout without claims are those of the library for Rattle.
+  all_sections : (limit : ℕ) (omitted : List ℕ) → IsFoldable o d.placed → refusal by no_claims d.placed ≡ None →
+      HasAllSections (request o all limit omitted) bytes (text_of (laid_by no_claims)) (table_by no_claims)
+  all_sections limit omitted foldable accepted = record {
+    lines = record {
+      text = text_of (laid_by no_claims);
+      printed = module_text o d foldable accepted (text_of (laid_by no_claims)) refl;
+      appended = refl;
+      are = lines-are no_claims;
+      joined = ap joined_lines (lines-are no_claims) ∙ lines_join by no_claims d.placed;
+      functions = lines-functions no_claims accepted;
+    };
+    placed = refl;
+  }
+
+pub printed_over : (names : List (List ℕ)) (o : Options) (bytes : List ℕ) (old new : Copier) → IsListOf names old.omitted.now → IsFresh old →
+    Printed (copying old new) false o bytes →
+    HasEventsOver (request o old.all_events old.limit old.omitted.now) bytes (buffers old.out.now new.out.now old.table.now new.table.now) new.written new.count
+printed_over names o bytes old new listed fresh v =
+    let own_by : Options = with_color o false in
     let all : Bool = old.all_events in
-    let placed : PlacedModule = v.decoded.placed in
-    let own : IsPlainly o v.calls placed = plainly_printed v claims_never in
-    let laid : List Call = layout by no_claims placed in
+    let d : Decoded bytes = v.decoded in
+    let placed : PlacedModule = d.placed in
+    let answers : Answers = answers_for names placed in
+    let asked : AreAnswered names v.calls = run_answered names old new v.calls listed v.run in
+    let own : IsLayoutFor names own_by v.answers placed = answered_layout names own_by v.answers placed (alike_answered names v.calls (layout own_by v.answers placed) v.alike asked) in
+    let accepted : refusal own_by answers placed ≡ None = sym own.refusal ∙ v.accepted in
+    let laid : List Call = layout own_by answers placed in
+    let alike : atoms v.calls ≡ atoms laid = v.alike ∙ ap atoms own.layout in
     let has : HasCopied old (text_of v.calls) (events all 0 v.calls) new = run_copied old new v.calls fresh v.run in
-    let same : text_of v.calls ≡ text_of laid = alike_texts v.calls laid own.alike in
-    let table : events all 0 v.calls ≡ events all 0 laid = alike_events all v.calls laid own.alike in
-    let few : length (events false 0 laid) ≤ length (text_of laid) = layout_lines by no_claims placed in
+    let same : text_of v.calls ≡ text_of laid = alike_texts v.calls laid alike in
+    let table : events all 0 v.calls ≡ events all 0 laid = alike_events all v.calls laid alike in
+    let few : length (events false 0 laid) ≤ length (text_of laid) = layout_lines own_by answers placed in
     let counted : new.written ≡ length (text_of laid) = has.counted ∙ ap length same in
     let small = has.small in
     let entered : (n : length (events all 0 laid) < 2 ^ 64) → (new.table.now ≡ over (events all 0 v.calls) old.table.now) × (new.count ≡ length (events all 0 v.calls)) =
     λ n. has.recorded (subst (λ (l : List WasmprinterEvent). length l < 2 ^ 64) (sym table) n) in
-    let starts : line_starts (events all 0 laid) ≡ map line_start (events false 0 laid) =
-    ap (λ (l : List WasmprinterEvent). map line_start l) (only-lines all 0 laid) in
-    let are : lines_at_starts (line_starts (events all 0 laid)) (text_of laid) ≡ lines_of laid =
-    ap (λ (l : List LineStart). lines_at_starts l (text_of laid)) starts ∙ lines-cut [] laid in
     record {
+      names = names;
+      listed = listed;
       text = text_of laid;
       table = events all 0 laid;
       lines = record {
-        text = text_of laid;
-        printed = module_text o v.decoded v.foldable own.accepted (text_of laid) refl;
-        appended = refl;
-        are = are;
-        joined = ap joined_lines are ∙ lines_join by no_claims placed;
-        functions = λ whole flat i f e.
-            subst (λ (ls : List TextLine). HasFunctionLines (hint_places placed) (line_places ls) f) (sym are)
-            (function_lines bytes placed by no_claims v.decoded.spelled whole flat own.accepted i f e);
+        printed = text_without names o d v.foldable accepted;
+        are = lines-are all o d answers;
+        joined = ap joined_lines (lines-are all o d answers) ∙ lines_join own_by answers placed;
+        functions = lines-functions all o d answers accepted;
       };
       placed = refl;
+      all = λ empty.
+          let none : AllByRecursion IsUnclaimed v.calls =
+          unclaimed v.calls (subst (λ (ns : List (List ℕ)). AreAnswered ns v.calls) (no_names names (subst (IsListOf names) empty listed)) asked) in
+          let plain : IsSame own_by v.answers placed = unclaimed_layout own_by v.answers placed (alike_unclaimed v.calls (layout own_by v.answers placed) v.alike none) in
+          subst (λ (cs : List Call). HasAllSections (request o all old.limit old.omitted.now) bytes (text_of cs) (events all 0 cs)) (sym plain.layout ∙ own.layout)
+          (all_sections all o d old.limit old.omitted.now v.foldable (sym plain.refusal ∙ v.accepted));
       copied = has.copied ∙ ap (λ (t : List ℕ). over t old.out.now) same;
       counted = counted;
       short = subst (λ (n : ℕ). new.written ≤ n) has.same_limit has.short;
       few = λ e. subst (λ (a : Bool). length (events a 0 laid) < 2 ^ 64) (sym e) (omega (arith, few, counted, small));
       entered = λ n. (entered n).0 ∙ ap (λ (l : List WasmprinterEvent). over l old.table.now) table;
-      listed = λ n. (entered n).1 ∙ ap (λ (l : List WasmprinterEvent). length l) table;
+      numbered = λ n. (entered n).1 ∙ ap (λ (l : List WasmprinterEvent). length l) table;
     }
 
-pub on_ok_over : {T : Type 0} (o : Options) (bytes : List ℕ) (old new : Copier) (r : Result T Error) → IsFresh old →
+pub on_ok_over : {T : Type 0} (names : List (List ℕ)) (o : Options) (bytes : List ℕ) (old new : Copier) (r : Result T Error) → IsListOf names old.omitted.now → IsFresh old →
     OnOk r (Printed (copying old new) false o bytes) →
-    OnOk r (HasEventsOver (request o old.all_events old.limit) bytes (buffers old.out.now new.out.now old.table.now new.table.now) new.written new.count)
-on_ok_over o bytes old new (Ok x) fresh v = printed_over o bytes old new fresh v
-on_ok_over o bytes old new (Err e) fresh v = tt
+    OnOk r (HasEventsOver (request o old.all_events old.limit old.omitted.now) bytes (buffers old.out.now new.out.now old.table.now new.table.now) new.written new.count)
+on_ok_over names o bytes old new (Ok x) listed fresh v = printed_over names o bytes old new listed fresh v
+on_ok_over names o bytes old new (Err e) listed fresh v = tt

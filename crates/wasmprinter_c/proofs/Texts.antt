@@ -54,7 +54,8 @@ short_message status detail =
     (short_if (status == 10) _ _ (omega arith)
     (short_if (status == 11) _ _ (omega arith)
     (short_if (status == 12) _ _ (omega arith)
-    (short_if (status == 13) _ _ (short_place (codes "unknown options 0x") (codes "") detail (omega arith)) (omega arith))))))))))))))
+    (short_if (status == 13) _ _ (short_place (codes "unknown options 0x") (codes "") detail (omega arith))
+    (short_if (status == 14) _ _ (short_place (codes "the list of names is cut off at byte 0x") (codes "") detail (omega arith)) (omega arith)))))))))))))))
 
 -- All bytes of a short text are counted, and its first bytes are written over the buffer, as many as fit.
 pub record HasAll (old : Copier) (text : List ℕ) (new : Copier) : Type 0 where

@@ -2,8 +2,10 @@
 pub mod Copied
 pub mod Events
 pub mod Messages
+pub mod Omitted
 pub mod Outcomes
 pub mod Over
 pub mod Printing
 pub mod Refused
 pub mod Statuses
+pub mod Without

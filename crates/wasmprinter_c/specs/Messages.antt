@@ -11,7 +11,7 @@ abbrev pub with_number : List ℕ → ℕ → List ℕ → List ℕ
 with_number before n after = before ++ (decimal n ++ after)
 
 -- The description of a status with this detail. 1 to 11 are the numbers that `number_of` gives to errors, 0 is
--- `ok_status`, 12 `indent_status` and 13 `option_status`.
+-- `ok_status`, 12 `indent_status`, 13 `option_status` and 14 `list_status`.
 abbrev pub message : ℕ → ℕ → List ℕ
 message status detail =
     if status == 0 then codes "success"
@@ -28,4 +28,5 @@ message status detail =
     else (if status == 11 then codes "out of memory"
     else (if status == 12 then codes "the indent is not UTF-8"
     else (if status == 13 then with_place (codes "unknown options 0x") detail (codes "")
-    else codes "unknown status")))))))))))))
+    else (if status == 14 then with_place (codes "the list of names is cut off at byte 0x") detail (codes "")
+    else codes "unknown status"))))))))))))))

@@ -2,13 +2,14 @@
 use Rattle.std.specs.Prelude.{◌≡◌, ◌<◌, ◌≤◌, ◌⊎◌, ℕ, List, true, false, length}
 use Rattle.wasmprinter_bytes.specs.declared.library_error.Error.{Error}
 use Rattle.wasmprinter_bytes.specs.declared.library_error.Error.TheVariants.{Malformed, Component, TooManyLocals, TooManyFunctions, EmptyTableInit, FoldLegacy, FoldHint, DylinkSubsection, Unreadable, Printer, Memory}
-use Rattle.wasmprinter_spec.specs.Binary.{Spells}
+use Rattle.wasmprinter_spec.specs.Binary.{Spells, IsComponent}
 use Rattle.wasmprinter_spec.specs.Placed.{PlacedModule}
 use Rattle.wasmprinter_spec.specs.Options.{Options, defaults}
 use Rattle.wasmprinter.specs.Outcome.{HasPrintReason, print_reasons, causes, FirstIsUnknown, MayGrow, IsSoundRefusal}
-use Rattle.wasmprinter.specs.Prefix.{PutsPrefix, PutsTextBefore}
 use Rattle.wasmprinter_c.specs.Over.{over}
 use Rattle.wasmprinter_c.specs.Printing.{Request, Buffers}
+use Rattle.wasmprinter_c.specs.Omitted.{IsListOf, kept_customs}
+use Rattle.wasmprinter_c.specs.Without.{PutsPrefixWithout, PutsTextBeforeWithout}
 use Rattle.wasmprinter_c.specs.declared.Outcome.{Outcome}
 
 -- The number of an error.
@@ -43,25 +44,27 @@ detail_in Memory = 0
 abbrev pub IsCopied : List ℕ → Type 0
 IsCopied indent = ¬ (indent ≡ defaults.indent)
 
--- A prefix of the module's text is longer than the limit. Its calls claim no custom section.
-abbrev pub IsTooLong : Options → List ℕ → ℕ → Type 0
-IsTooLong o bytes limit = PutsPrefix o bytes (λ text. limit < length text)
+-- A prefix of the module's text is longer than the limit. In this text the custom sections with these names are left
+-- out.
+abbrev pub IsTooLong : List (List ℕ) → Options → List ℕ → ℕ → Type 0
+IsTooLong names o bytes limit = PutsPrefixWithout names o bytes (λ text. limit < length text)
 
 -- If the bytes encode a module, the error has one of the causes of `HasListedCause`. The printer fails only if a prefix
--- of the text is longer than the limit. No section is claimed, so the error names the first section that is refused.
--- An allocation may also fail for a copy of the indent.
-abbrev pub HasBufferCause : Options → List ℕ → ℕ → Error → Type 0
-HasBufferCause o bytes limit e =
+-- of the text is longer than the limit. Exactly the sections with these names are claimed, so the error names the first
+-- of the other sections that is refused. An allocation may also fail for a copy of the indent.
+abbrev pub HasBufferCause : List (List ℕ) → Options → List ℕ → ℕ → Error → Type 0
+HasBufferCause names o bytes limit e =
     (placed : PlacedModule) → Spells bytes placed →
-    HasPrintReason (print_reasons o placed (λ x. IsTooLong o bytes limit) (λ id. FirstIsUnknown id placed.customs))
+    HasPrintReason (print_reasons o placed (λ x. IsTooLong names o bytes limit) (λ id. FirstIsUnknown id (kept_customs names placed.customs)))
     (causes (MayGrow o placed ⊎ IsCopied o.indent) placed) e
 
--- Printing a text of at most `limit` bytes over a buffer is refused with this error.
-pub record IsBufferRefusal (o : Options) (bytes : List ℕ) (limit : ℕ) (e : Error) : Type 0 where
+-- Printing a text of at most `limit` bytes, without the custom sections with these names, over a buffer is refused with
+-- this error.
+pub record IsBufferRefusal (names : List (List ℕ)) (o : Options) (bytes : List ℕ) (limit : ℕ) (e : Error) : Type 0 where
   -- The error is true of the bytes, whether they encode a module or not.
   pub true_of : IsSoundRefusal o bytes e
   -- If the bytes encode a module, the error has one of the causes of `HasBufferCause`.
-  pub caused : HasBufferCause o bytes limit e
+  pub caused : HasBufferCause names o bytes limit e
 
 -- The error is true of the bytes, as for `Config::print`, or the indent was not copied because an allocation
 -- failed.
@@ -73,20 +76,23 @@ IsTrueOrUncopied o bytes e = IsSoundRefusal o bytes e ⊎ ((e ≡ Memory) × IsC
 abbrev pub IsWritten : ℕ → List ℕ → List ℕ → List ℕ → Type 0
 IsWritten limit old new text = (new ≡ over text old) × (length text ≤ limit)
 
--- The contents of the buffer after an error. The order is: options, bytes of the module, limit, error, contents before,
--- contents after.
-abbrev pub LeavesBuffer : Options → List ℕ → ℕ → Error → List ℕ → List ℕ → Type 0
+-- The contents of the buffer after an error. The order is: names of sections that are left out, options, bytes of the
+-- module, limit, error, contents before, contents after.
+abbrev pub LeavesBuffer : List (List ℕ) → Options → List ℕ → ℕ → Error → List ℕ → List ℕ → Type 0
 -- After an unknown subsection of a `dylink.0` section: the text before that section.
-LeavesBuffer o bytes limit (DylinkSubsection id) old new = PutsTextBefore id o bytes (IsWritten limit old new)
+LeavesBuffer names o bytes limit (DylinkSubsection id) old new = PutsTextBeforeWithout names id o bytes (IsWritten limit old new)
 -- If the text is longer than the limit: a prefix of the text.
-LeavesBuffer o bytes limit (Printer e) old new = PutsPrefix o bytes (IsWritten limit old new)
+LeavesBuffer names o bytes limit (Printer e) old new = PutsPrefixWithout names o bytes (IsWritten limit old new)
 -- If an allocation failed: the buffer is unchanged or, only if operators are folded, has a prefix of the text.
-LeavesBuffer o bytes limit Memory old new = (new ≡ old) ⊎ ((o.folds ≡ true) × PutsPrefix o bytes (IsWritten limit old new))
+LeavesBuffer names o bytes limit Memory old new = (new ≡ old) ⊎ ((o.folds ≡ true) × PutsPrefixWithout names o bytes (IsWritten limit old new))
 -- After any other error: the buffer is unchanged.
-LeavesBuffer o bytes limit e old new = new ≡ old
+LeavesBuffer names o bytes limit e old new = new ≡ old
 
 -- The module was refused with this outcome.
 pub record IsRefusedWith (r : Request) (bytes : List ℕ) (b : Buffers) (outcome : Outcome) : Type 0 where
+  -- The names in the list. The list of a component is not read.
+  pub names : List (List ℕ)
+  pub listed : ¬ IsComponent bytes → IsListOf names r.omitted
   -- The error.
   pub error : Error
   -- The status is its number.
@@ -96,9 +102,9 @@ pub record IsRefusedWith (r : Request) (bytes : List ℕ) (b : Buffers) (outcome
   -- It is true of the bytes, or the indent was not copied because an allocation failed.
   pub is_so : IsTrueOrUncopied r.options bytes error
   -- If the bytes encode a module, it has one of the causes of `HasBufferCause`.
-  pub caused : HasBufferCause r.options bytes r.limit error
+  pub caused : HasBufferCause names r.options bytes r.limit error
   -- The buffer has the contents that the error leaves.
-  pub left : LeavesBuffer r.options bytes r.limit error b.old b.new
+  pub left : LeavesBuffer names r.options bytes r.limit error b.old b.new
   -- The length of the text is given as 0.
   pub uncounted : outcome.length ≡ 0
   -- The number of events is given as 0.

@@ -17,6 +17,10 @@ indent_status = 12
 abbrev pub option_status : ℕ
 option_status = 13
 
+-- The list of names is cut off.
+abbrev pub list_status : ℕ
+list_status = 14
+
 -- The major number times 1,000,000, plus the minor number times 1,000, plus the patch number.
 abbrev pub library_version : ℕ
 library_version = 0 * 1000000 + 263 * 1000 + 0

@@ -5,6 +5,7 @@ ghost use Rattle.wasmprinter_c.specs.Over.{over_from};
 ghost use Rattle.wasmprinter_c.specs.Copied.{Grows, Records, copied_meaning};
 ghost use Rattle.wasmprinter_c.specs.Events.{event, noted, line_event};
 
+use crate::omitted_names::is_listed;
 use std::io;
 use std::io::ErrorKind;
 use wasmprinter::Print;
@@ -50,12 +51,14 @@ pub struct WasmprinterEvent {
 }
 
 /// A printer that writes over a buffer and a table. It keeps what fits, and counts all bytes and events. The text has
-/// at most `limit` bytes.
+/// at most `limit` bytes. It claims exactly the custom sections whose names are in the list `omitted`.
 #[derive(Drop)]
 pub(crate) struct Copier<'a> {
     out: &'a mut [u8],
     written: usize,
     limit: usize,
+    /// A list of names in the form that `omitted_names` reads.
+    omitted: &'a [u8],
     /// Whether the table gets all events, or only the starts of lines.
     all_events: bool,
     table: &'a mut [WasmprinterEvent],
@@ -86,10 +89,12 @@ fn copy_over(out: &mut [u8], place: usize, piece: &[u8])
 }
 
 impl<'a> Copier<'a> {
-    /// Returns a printer over a buffer and a table, for a text of at most `limit` bytes. Nothing is written yet.
+    /// Returns a printer over a buffer and a table, for a text of at most `limit` bytes without the custom sections whose
+    /// names are in a list. Nothing is written yet.
     pub(crate) fn new(
         all_events: bool,
         limit: usize,
+        omitted: &'a [u8],
         out: &'a mut [u8],
         table: &'a mut [WasmprinterEvent],
     ) -> Copier<'a>
@@ -100,12 +105,14 @@ impl<'a> Copier<'a> {
         ensures no_text { result.written ≡ 0 }
         ensures no_event { result.count ≡ 0 }
         ensures limited { result.limit ≡ limit }
+        ensures omits { result.omitted ≡ omitted.entry }
         ensures listed { result.all_events ≡ all_events }
     {
         Copier {
             out,
             written: 0,
             limit,
+            omitted,
             all_events,
             table,
             count: 0,
@@ -213,12 +220,12 @@ impl Print for Copier<'_> {
 
     fn print_custom_section(
         &mut self,
-        _name: &str,
+        name: &str,
         binary_offset: u64,
         _bytes: &[u8],
     ) -> io::Result<bool> {
         self.note(CUSTOM_SECTION, binary_offset);
-        Ok(false)
+        Ok(is_listed(self.omitted, name.as_bytes()))
     }
 
     #[inline]

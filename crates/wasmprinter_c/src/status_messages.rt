@@ -6,7 +6,7 @@ ghost use Rattle.wasmprinter_c.specs.Copied.{copied_meaning};
 ghost use Rattle.wasmprinter_c.specs.Messages.{message};
 
 use crate::buffer_and_event_printer::Copier;
-use crate::status_of_error::{BAD_INDENT, PRINTED, UNKNOWN_OPTION};
+use crate::status_of_error::{BAD_INDENT, BAD_LIST, PRINTED, UNKNOWN_OPTION};
 use wasmprinter::Error;
 use wasmprinter_print::Output;
 use wasmprinter_text::integers::{write_decimal_between, write_hexadecimal_between};
@@ -61,6 +61,12 @@ fn write_message<O: Output>(out: &mut O, status: u32, detail: u64)
         11 => out.write_str("out of memory"),
         BAD_INDENT => out.write_str("the indent is not UTF-8"),
         UNKNOWN_OPTION => write_hexadecimal_between(out, "unknown options 0x", detail, ""),
+        BAD_LIST => write_hexadecimal_between(
+            out,
+            "the list of names is cut off at byte 0x",
+            detail,
+            "",
+        ),
         _ => out.write_str("unknown status"),
     }
 }

@@ -13,6 +13,9 @@ pub(crate) const BAD_INDENT: u32 = 12;
 /// The status for flags that choose an option that this library does not know.
 pub(crate) const UNKNOWN_OPTION: u32 = 13;
 
+/// The status for a list of names that is cut off.
+pub(crate) const BAD_LIST: u32 = 14;
+
 /// Returns the number of an error.
 pub(crate) fn status_of(error: &Error) -> u32
     ensures { result ≡ number_of error.now }

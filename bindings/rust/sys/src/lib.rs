@@ -57,7 +57,7 @@ pub const WASMPRINTER_FOLD_LEGACY: WasmprinterStatus = 6;
 /// Only with [`WASMPRINTER_FOLD`]: a branch hint has no position in folded text. The detail is its place.
 pub const WASMPRINTER_FOLD_HINT: WasmprinterStatus = 7;
 
-/// A section `dylink.0` has an unknown subsection. The detail is the id of the first one.
+/// A section `dylink.0` that is not left out has an unknown subsection. The detail is the id of the first one.
 pub const WASMPRINTER_DYLINK_SUBSECTION: WasmprinterStatus = 8;
 
 /// The file can't be read. Never returned: no function reads a file.
@@ -74,6 +74,9 @@ pub const WASMPRINTER_INVALID_INDENT: WasmprinterStatus = 12;
 
 /// The flags have bits that the library does not know. The detail is these bits.
 pub const WASMPRINTER_UNKNOWN_OPTION: WasmprinterStatus = 13;
+
+/// The list of names is cut off. The detail is the byte offset in it of the length of the name that is cut off.
+pub const WASMPRINTER_INVALID_LIST: WasmprinterStatus = 14;
 
 /// The description of a status has at most this length.
 pub const WASMPRINTER_ERROR_TEXT_LEN: usize = 200;
@@ -137,12 +140,13 @@ extern "C" {
     ///
     /// `flags` is the sum of [`WASMPRINTER_OFFSETS`] and the others. `indent` is the text of one level of nesting, in UTF-8. `limit` is the
     /// greatest length of the text, and `usize::MAX` means no limit: printing stops with [`WASMPRINTER_TOO_LONG`] before the text gets longer.
+    /// `omitted` is a list of the names of custom sections to leave out, each preceded by its length as four bytes, the lowest first.
     /// `table_len` is the capacity of the table in events. `wasmprinter.h` says what an error leaves in `out` and `table`.
     ///
     /// # Safety
     ///
-    /// No pointer is null, even if its length is 0. Each pointer is valid for its length: `wasm` and `indent` for reads of initialised bytes,
-    /// the others for writes. What `out`, `table` and `result` point to overlaps nothing else. The library reads neither `out` nor `table`
+    /// No pointer is null, even if its length is 0. Each pointer is valid for its length: `wasm`, `indent` and `omitted` for reads of
+    /// initialised bytes, the others for writes. What `out`, `table` and `result` point to overlaps nothing else. The library reads neither `out` nor `table`
     /// (only tested).
     pub fn wasmprinter_raw_print(
         wasm: *const u8,
@@ -151,6 +155,8 @@ extern "C" {
         indent: *const u8,
         indent_len: usize,
         limit: usize,
+        omitted: *const u8,
+        omitted_len: usize,
         out: *mut u8,
         out_len: usize,
         table: *mut WasmprinterEvent,
@@ -159,7 +165,7 @@ extern "C" {
     ) -> WasmprinterStatus;
 
     /// Writes the description of a status with its detail to `out`: as many of its first bytes as fit. Returns the length of the whole
-    /// description, which is in ASCII. The description of a status greater than 13 is `unknown status`.
+    /// description, which is in ASCII. The description of a status greater than 14 is `unknown status`.
     ///
     /// # Safety
     ///

@@ -11,6 +11,16 @@ fn print(
     flags: u32,
     limit: usize,
 ) -> (u32, WasmprinterResult, [u8; 16], WasmprinterEvent) {
+    print_without(wasm, flags, limit, b"")
+}
+
+/// Does the same without the custom sections whose names are in a list.
+fn print_without(
+    wasm: &[u8],
+    flags: u32,
+    limit: usize,
+    omitted: &[u8],
+) -> (u32, WasmprinterResult, [u8; 16], WasmprinterEvent) {
     let indent = b"  ";
     let mut out = [GUARD; 16];
     let mut line = WasmprinterEvent {
@@ -28,6 +38,8 @@ fn print(
             indent.as_ptr(),
             indent.len(),
             limit,
+            omitted.as_ptr(),
+            omitted.len(),
             out.as_mut_ptr(),
             out.len(),
             &mut line,
@@ -87,6 +99,34 @@ fn refuses_unknown_options() {
         let (status, result, out, _) = print(b"\0asm\x01\0\0\0", flags, limit);
         assert_eq!(status, WASMPRINTER_UNKNOWN_OPTION);
         assert_eq!((result.length, result.count, result.detail), (0, 0, 0x60));
+        assert_eq!(out, [GUARD; 16]);
+    }
+}
+
+#[test]
+fn leaves_out_custom_sections() {
+    // a custom section `ab` without data
+    let wasm = b"\0asm\x01\0\0\0\0\x03\x02ab";
+    let (status, result, out, _) = print_without(wasm, 0, 9, b"\x02\0\0\0ab");
+    assert_eq!(status, WASMPRINTER_OK);
+    assert_eq!((result.length, result.count, result.detail), (9, 1, 0));
+    assert_eq!(&out[..9], b"(module)\n");
+    let (status, ..) = print_without(wasm, 0, 9, b"\x01\0\0\0a");
+    assert_eq!(status, WASMPRINTER_TOO_LONG);
+}
+
+#[test]
+fn refuses_lists_that_are_cut_off() {
+    let lists: [(&[u8], u64); 4] = [
+        (b"\x01", 0),
+        (b"\x03\0\0\0ab", 0),
+        (b"\x02\0\0\0ab\x01\0\0\0", 6),
+        (b"\0\0\0\0\xff\xff\xff\xff", 4),
+    ];
+    for (omitted, place) in lists {
+        let (status, result, out, _) = print_without(b"\0asm\x01\0\0\0", 0, 9, omitted);
+        assert_eq!(status, WASMPRINTER_INVALID_LIST);
+        assert_eq!((result.length, result.count, result.detail), (0, 0, place));
         assert_eq!(out, [GUARD; 16]);
     }
 }

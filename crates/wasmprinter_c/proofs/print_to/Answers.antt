@@ -13,12 +13,15 @@ returns-clause-same_table c =
 
 pub returns-clause-printed : goal.returns-clause-printed
 returns-clause-printed c =
-    on_ok_over c.args.config.now c.args.wasm.now c.args.copier.now c.print.new.printer c.print.result (record { text = c.requires.no_text; table = c.requires.no_event }) c.print.ensures.printed
+    λ names listed.
+    on_ok_over names c.args.config.now c.args.wasm.now c.args.copier.now c.print.new.printer c.print.result listed (record { text = c.requires.no_text; table = c.requires.no_event }) c.print.ensures.printed
 
 pub returns-clause-refused : goal.returns-clause-refused
 returns-clause-refused c =
-    if_err_refusal c.args.copier.now (record { text = c.requires.no_text; table = c.requires.no_event }) c.args.config.now c.args.wasm.now c.print.new.printer c.print.result c.print.ensures.left c.print.ensures.refused
+    λ names listed.
+    if_err_refusal c.args.copier.now (record { text = c.requires.no_text; table = c.requires.no_event }) names listed c.args.config.now c.args.wasm.now c.print.new.printer c.print.result c.print.ensures.left c.print.ensures.refused
 
 pub returns-clause-left : goal.returns-clause-left
 returns-clause-left c =
-    if_err_left c.args.copier.now (record { text = c.requires.no_text; table = c.requires.no_event }) c.args.config.now c.args.wasm.now c.print.new.printer c.print.result c.print.ensures.left
+    λ names listed.
+    if_err_left c.args.copier.now (record { text = c.requires.no_text; table = c.requires.no_event }) names listed c.args.config.now c.args.wasm.now c.print.new.printer c.print.result c.print.ensures.left

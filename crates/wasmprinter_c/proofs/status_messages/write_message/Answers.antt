@@ -29,3 +29,6 @@ returns-in-12 g c = rw c.in-12.is c.write_str-in-12.ensures
 
 pub returns-in-13 : goal.returns-in-13
 returns-in-13 g c = rw c.in-13.is c.write_hexadecimal_between-in-13.ensures
+
+pub returns-in-14 : goal.returns-in-14
+returns-in-14 g c = rw c.in-14.is c.write_hexadecimal_between-in-14.ensures
