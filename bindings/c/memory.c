@@ -1,6 +1,7 @@
 /* memory FILE: lets each allocation of a print fail in turn, for every case of bindings/cases.txt with each set of options, and for modules that are
  * typed here. Linked with --wrap=malloc, --wrap=realloc and --wrap=free, so that the allocations of the library and of the header call the functions
- * below. Prints each difference and the counts; the status is 1 if there is a difference. For C99 and C++. */
+ * below. Checks also that printing stops at a limit. Prints each difference and the counts; the status is 1 if there is a difference. For C99 and
+ * C++. */
 #include "cases.h"
 
 enum { ROOM = 1 << 14 };
@@ -36,8 +37,10 @@ static unsigned allowed; /* the number of allocations that succeed before one fa
 static unsigned refused; /* the number of allocations that failed */
 static unsigned spared;  /* the number of them that make a block shorter */
 static long live;        /* the number of blocks that are not freed yet */
+static unsigned asked;   /* the number of allocations, also those that failed */
 
 static bool is_allowed(void) {
+    asked++;
     if (failing == NONE || (failing == ONE && refused > 0)) {
         return true;
     }
@@ -218,9 +221,29 @@ static void check_typed_texts(void) {
     check_typed("the same, folded and allocated", print_to_block, &folded, text, 3);
 }
 
+/* ---- Limits */
+
+/* Prints with this limit, and returns the number of allocations. */
+static unsigned allocations_with(Input input, size_t limit, WasmprinterStatus status) {
+    static uint8_t out[ROOM];
+    input.options.limit = limit;
+    asked = 0;
+    expect(print_text(&input, out, ROOM).status == status, "a limit", "status");
+    return asked;
+}
+
+/* Folding allocates for each list of operators. After the limit nothing is folded, so that fewer allocations are made. */
+static void check_limit_stops(void) {
+    static const char wasm[] = "\0asm\1\0\0\0\1\4\1\x60\0\0\3\2\1\0\12\12\1\10\0\x41\1\x1a\x41\2\x1a\x0b";
+    const Input folded = {{wasm, sizeof wasm - 1}, {WASMPRINTER_FOLD, {NULL, 0}, 0, {NULL, 0}}};
+    const unsigned all = allocations_with(folded, 0, WASMPRINTER_OK);
+    expect(allocations_with(folded, 1, WASMPRINTER_TOO_LONG) < all, "a limit", "number of allocations");
+}
+
 int main(int argc, char **argv) {
     const unsigned cases = check_file(argc == 2 ? argv[1] : NULL, check_case);
     check_typed_texts();
+    check_limit_stops();
     printf(LANGUAGE ": %u failed allocations in %u cases, %u differences\n", failures, cases, failed);
     return failed == 0 ? 0 : 1;
 }
