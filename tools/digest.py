@@ -43,7 +43,7 @@ PAGE = """# Digests of the texts of all rows
 [GUARANTEES](../GUARANTEES.md#stable-text) promises that a text stays the same in later releases. `python3 -B tools/digest.py --check`, a step of the
 gate, compares these digests with those of the built program; the head of the script says what a digest covers.
 A line is about the modules of all rows of `crates/check_rows/data`, printed with one set of options. "Printed" is the number of modules with exit
-status 0; the others are refused, and their messages count. A new or changed row changes all digests.
+status 0; the others are refused, and their messages count. A new row changes all digests, and so does a row with another title or other bytes.
 
 Made by `python3 -B tools/digest.py --write`{origin}
 
