@@ -6,3 +6,7 @@ pub mod CommandLines
 pub mod Texts
 pub mod Files
 pub mod Runs
+pub mod ShownLines
+pub mod Headers
+pub mod ExcerptLines
+pub mod Excerpts

@@ -12,11 +12,14 @@ use Rattle.wasmprinter.specs.Colored.{HasColoredTextBy}
 use Rattle.wasmprinter.specs.Prefix.{PutsPrefix}
 use Rattle.wasmprinter.specs.TextOfFile.{AreRefused}
 use Rattle.wasm2text.specs.Arguments.{Argument, IsCommandLine, IsArgumentError, Request, request_of, with_input}
+use Rattle.wasm2text.specs.Excerpt.{IsExcerptOf, HaveNoByte}
 use Rattle.wasm2text.specs.Messages.{is_closed_pipe, Failure, failure_line, misuse_line}
 use Rattle.wasm2text.specs.OutputFiles.{Creating, Closing, WritesFile, FlushesFile, ClosesFile, uncreated_file}
 use Rattle.wasm2text.specs.OwnTexts.{help_text, version_text}
 use Rattle.wasm2text.specs.declared.cause.Cause.{Cause}
-use Rattle.wasm2text.specs.declared.cause.Cause.TheVariants.{System as Unread, Module, Output}
+use Rattle.wasm2text.specs.declared.cause.Cause.TheVariants.{System as Unread, Module, NoByte, Output}
+use Rattle.wasm2text.specs.declared.form.Form.{Form}
+use Rattle.wasm2text.specs.declared.form.Form.TheVariants.{Plain, InColors, Excerpt}
 use Rattle.wasm2text.specs.declared.printing.Ended.{Ended}
 use Rattle.wasm2text.specs.declared.printing.Ended.TheVariants.{Printed, Refused, Unwritten}
 use Rattle.wasm2text.specs.declared.output.OutputFile.{OutputFile}
@@ -25,10 +28,11 @@ use Rattle.wasm2text.specs.declared.misuse.ArgumentError.TheVariants.{Memory}
 use Rattle.wasm2text.specs.declared.options.ColorChoice.{ColorChoice}
 use Rattle.wasm2text.specs.declared.options.ColorChoice.TheVariants.{Auto, Always, Never}
 
--- How a text is made: the options of printing, and whether the text has ANSI escape sequences.
+-- What is written for a module: the options of printing, and the form, which is the text, the text with ANSI escape
+-- sequences, or an excerpt.
 pub record Choice : Type 0 where
   pub options : Options
-  pub colored : Bool
+  pub form : Form
 
 -- Colors are chosen: `auto` chooses them if standard output shows colors and the text goes there.
 abbrev pub is_colored : ColorChoice → Option (List ℕ) → Bool → Bool
@@ -37,17 +41,24 @@ is_colored Always output shows_colors = true
 is_colored Never output shows_colors = false
 
 -- The choice with these parts.
-abbrev pub choice : Options → Bool → Choice
-choice o colored = record { options = o; colored = colored }
+abbrev pub choice : Options → Form → Choice
+choice o form = record { options = o; form = form }
+
+-- The form: an excerpt if the offset of a byte is given, and otherwise the text, with colors or without. An excerpt has no
+-- colors.
+abbrev pub form_of : Option ℕ → Bool → Form
+form_of (Some offset) colored = Excerpt offset
+form_of None colored = if colored then InColors else Plain
 
 -- The choice of a request, if standard output shows colors or does not.
 abbrev pub choice_of : Request → Bool → Choice
-choice_of request shows_colors = choice request.options (is_colored request.color request.output shows_colors)
+choice_of request shows_colors = choice request.options (form_of request.at (is_colored request.color request.output shows_colors))
 
--- The text is that of the module that the bytes encode, with ANSI escape sequences or without.
-abbrev pub HasTextIn : Bool → Options → List ℕ → List ℕ → Type 0
-HasTextIn true o wasm text = HasColoredTextBy o wasm text
-HasTextIn false o wasm text = IsTextOf o wasm text
+-- The text is that of the module that the bytes encode, with ANSI escape sequences or without, or is an excerpt of it.
+abbrev pub HasTextIn : Form → Options → List ℕ → List ℕ → Type 0
+HasTextIn InColors o wasm text = HasColoredTextBy o wasm text
+HasTextIn Plain o wasm text = IsTextOf o wasm text
+HasTextIn (Excerpt offset) o wasm text = IsExcerptOf o wasm offset text
 
 -- The text is empty, or a prefix of the text of the module that the bytes encode, without ANSI escape sequences.
 abbrev pub IsBeginning : Options → List ℕ → List ℕ → Type 0
@@ -110,32 +121,40 @@ printing may_read choice out = record { may_read = may_read; choice = choice; ou
 -- The text of the module in this file was delivered.
 abbrev pub PrintsFile : {W : Type 0} → Printing W → W → List ℕ → W → Type 0
 PrintsFile p old file new =
-    (wasm text : List ℕ) × p.may_read file (Ok wasm) × HasTextIn p.choice.colored p.choice.options wasm text × Delivers p.out old text new
+    (wasm text : List ℕ) × p.may_read file (Ok wasm) × HasTextIn p.choice.form p.choice.options wasm text × Delivers p.out old text new
 
--- A part of the text may be written before this error: without ANSI escape sequences, before an unknown subsection of a
--- `dylink.0` section, and if operators are folded, before an allocation fails.
+-- The text without ANSI escape sequences is written while it is made. All else is written when it is complete.
+abbrev pub is_streamed : Form → Bool
+is_streamed Plain = true
+is_streamed form = false
+
+-- A part of the text may be written before this error, if it is written while it is made: before an unknown subsection of
+-- a `dylink.0` section, and if operators are folded, before an allocation fails.
 abbrev pub is_late : Choice → Error → Bool
-is_late c (DylinkSubsection id) = not c.colored
-is_late c NoMemory = not c.colored && c.options.folds
+is_late c (DylinkSubsection id) = is_streamed c.form
+is_late c NoMemory = is_streamed c.form && c.options.folds
 is_late c error = false
 
 -- The text that was written before a write failed: a prefix of the text of the module that the bytes encode. A text with
--- ANSI escape sequences is written in one write, so nothing was written before.
-abbrev pub IsCutText : Bool → Options → List ℕ → List ℕ → Type 0
-IsCutText true o wasm text = (text ≡ []) × ((whole : List ℕ) × HasColoredTextBy o wasm whole)
-IsCutText false o wasm text = PutsPrefix o wasm (λ prefix. prefix ≡ text)
+-- ANSI escape sequences and an excerpt are written in one write, so nothing was written before.
+abbrev pub IsCutText : Form → Options → List ℕ → List ℕ → Type 0
+IsCutText InColors o wasm text = (text ≡ []) × ((whole : List ℕ) × HasColoredTextBy o wasm whole)
+IsCutText Plain o wasm text = PutsPrefix o wasm (λ prefix. prefix ≡ text)
+IsCutText (Excerpt offset) o wasm text = (text ≡ []) × ((whole : List ℕ) × IsExcerptOf o wasm offset whole)
 
--- This file was not printed, for this cause: it can't be read and nothing was written; its module is refused; or the
--- text can't be written.
+-- This file was not printed, for this cause: it can't be read and nothing was written; its module is refused; its module
+-- has no byte at the offset and nothing was written; or the text can't be written.
 abbrev pub FailsOn : {W : Type 0} → Printing W → W → List ℕ → Cause → W → Type 0
 FailsOn p old file (Unread error) new = p.may_read file (Err error) × (new ≡ old)
 FailsOn p old file (Module error) new =
     (wasm text : List ℕ) × p.may_read file (Ok wasm) × AreRefused p.choice.options wasm error
     × (is_late p.choice error ≡ false → text ≡ []) × IsBeginning p.choice.options wasm text × WritesAll p.out old text new
+FailsOn p old file (NoByte offset len) new =
+    (wasm : List ℕ) × p.may_read file (Ok wasm) × (p.choice.form ≡ Excerpt offset) × HaveNoByte p.choice.options wasm offset len × (new ≡ old)
 FailsOn p old file (Output error) new =
     (wasm text : List ℕ) × p.may_read file (Ok wasm)
-    × ((IsCutText p.choice.colored p.choice.options wasm text × StopsAfter p.out old text error new)
-    ⊎ (HasTextIn p.choice.colored p.choice.options wasm text × StaysBehind p.out old text error new))
+    × ((IsCutText p.choice.form p.choice.options wasm text × StopsAfter p.out old text error new)
+    ⊎ (HasTextIn p.choice.form p.choice.options wasm text × StaysBehind p.out old text error new))
 
 -- The cause is that the text can't be written.
 abbrev pub is_output : Cause → Bool

@@ -26,6 +26,7 @@ request_read r = record {
   options = options_read r;
   color = r.color;
   output = option_copied r.output;
+  at = r.at;
   files = map (λ file. file.now) r.files.items;
 }
 

@@ -5,9 +5,15 @@
 mod call_tests;
 mod cause;
 mod escaped;
+mod excerpt;
+#[cfg(test)]
+mod excerpt_tests;
+mod form;
 mod help;
+mod line_search;
 mod messages;
 mod misuse;
+mod offset;
 mod options;
 mod output;
 #[cfg(test)]

@@ -46,6 +46,8 @@ pub enum Setting {
     Indent,
     /// Whether the text has ANSI escape sequences.
     Color,
+    /// The offset of the byte that an excerpt of the text shows.
+    At,
 }
 
 impl Setting {
@@ -57,6 +59,7 @@ impl Setting {
             "-o" | "--output" => Some(Setting::Output),
             "--indent" => Some(Setting::Indent),
             "--color" => Some(Setting::Color),
+            "--at" => Some(Setting::At),
             _ => None,
         }
     }
@@ -69,6 +72,7 @@ impl Setting {
             Setting::Output => "--output",
             Setting::Indent => "--indent",
             Setting::Color => "--color",
+            Setting::At => "--at",
         }
     }
 }
@@ -86,6 +90,9 @@ pub fn joined(word: &str) -> Option<(Setting, &str)>
     }
     if let Some(value) = word.strip_prefix("--color=") {
         return Some((Setting::Color, value));
+    }
+    if let Some(value) = word.strip_prefix("--at=") {
+        return Some((Setting::At, value));
     }
     None
 }

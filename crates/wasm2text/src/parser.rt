@@ -6,6 +6,7 @@ ghost use Rattle.wasm2text.specs.declared.parser.Next.TheVariants.{Argument as A
 ghost use Rattle.wasm2text.specs.declared.misuse.ArgumentError.TheVariants.{InvalidValue};
 
 use crate::misuse::ArgumentError;
+use crate::offset::read_offset;
 use crate::options::{ColorChoice, Flag, Setting, is_dashed, joined};
 use crate::request::Request;
 use std::alloc::Global;
@@ -99,6 +100,13 @@ impl<'a> Parser<'a> {
             Setting::Color => match ColorChoice::named(value) {
                 Some(choice) => {
                     self.request.choose_color(choice);
+                    Ok(())
+                }
+                None => Err(ArgumentError::InvalidValue { setting, value }),
+            },
+            Setting::At => match read_offset(value) {
+                Some(offset) => {
+                    self.request.show_byte(offset);
                     Ok(())
                 }
                 None => Err(ArgumentError::InvalidValue { setting, value }),

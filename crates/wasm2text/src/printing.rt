@@ -1,9 +1,11 @@
 //! Printing files to a writer.
-ghost use Rattle.std.specs.Prelude.{◌≡◌, List, [], None, map, true, false, Result, Ok, Err, MatchResult};
+ghost use Rattle.std.specs.Prelude.{◌≡◌, List, [], None, map, Result, Ok, Err, MatchResult};
 ghost use Rattle.wasm2text.specs.Messages.{Failure};
 ghost use Rattle.wasm2text.specs.Outcome.{Reads, between, Returns, writer, printing, series, choice, EndsAs, EndsBy, IsNoted, PrintsEach, Reports, write_failures, status_of};
 
 use crate::cause::{Cause, is_closed_pipe};
+use crate::excerpt::excerpt_of;
+use crate::form::Form;
 use crate::messages::{Messages, report};
 use crate::output::{Output, PrintOutput};
 use crate::request::STANDARD_INPUT;
@@ -18,8 +20,8 @@ use wasmprinter::{Config, Error};
 pub struct Style<'a> {
     /// The options of printing.
     pub config: &'a Config,
-    /// The text has ANSI escape sequences.
-    pub is_colored: bool,
+    /// What is written.
+    pub form: Form,
 }
 
 /// How printing a file ended.
@@ -44,7 +46,7 @@ pub fn print_files<I: Inputs, O: Output + Drop, E: Messages>(
     err: &mut E,
 ) -> (u8, O)
     ensures { (failures : List Failure)
-        × PrintsEach (series (Reads I.reads I.reads_input) (choice style.entry.config.now style.entry.is_colored) (writer O.takes O.flushes O.uncreated))
+        × PrintsEach (series (Reads I.reads I.reads_input) (choice style.entry.config.now style.entry.form) (writer O.takes O.flushes O.uncreated))
         inputs.old out (map (λ f. f.now) files.now) failures inputs.new result.1
         × Reports E.sends err.old failures err.new × (result.0 ≡ status_of failures) }
 {
@@ -119,7 +121,7 @@ fn print_file<I: Inputs, O: Output>(
     file: &str,
     out: O,
 ) -> (Ended, O)
-    ensures { EndsAs (printing (between (Reads I.reads I.reads_input) inputs.old inputs.new) (choice style.entry.config.now style.entry.is_colored)
+    ensures { EndsAs (printing (between (Reads I.reads I.reads_input) inputs.old inputs.new) (choice style.entry.config.now style.entry.form)
         (writer O.takes O.flushes O.uncreated)) out file.now result.0 result.1 }
 {
     match read(inputs, file) {
@@ -143,18 +145,18 @@ fn read<I: Inputs>(inputs: &mut I, file: &str) -> io::Result<Vec<u8>>
 
 /// Prints a module, and returns the writer.
 fn print_module<O: Output>(alloc: Global, style: Style<'_>, wasm: &[u8], out: O) -> (Ended, O)
-    ensures { EndsAs (printing (Returns wasm.now) (choice style.entry.config.now style.entry.is_colored) (writer O.takes O.flushes O.uncreated)) out [] result.0 result.1 }
+    ensures { EndsAs (printing (Returns wasm.now) (choice style.entry.config.now style.entry.form) (writer O.takes O.flushes O.uncreated)) out [] result.0 result.1 }
 {
-    if style.is_colored {
-        print_colored(alloc, style.config, wasm, out)
-    } else {
-        print_plain(alloc, style.config, wasm, out)
+    match style.form {
+        Form::Plain => print_plain(alloc, style.config, wasm, out),
+        Form::InColors => print_colored(alloc, style.config, wasm, out),
+        Form::Excerpt(offset) => print_excerpt(alloc, style.config, wasm, offset, out),
     }
 }
 
 /// Prints a module without ANSI escape sequences, while its text is made. Returns the writer.
 fn print_plain<O: Output>(alloc: Global, config: &Config, wasm: &[u8], out: O) -> (Ended, O)
-    ensures { EndsAs (printing (Returns wasm.now) (choice config.now false) (writer O.takes O.flushes O.uncreated)) out [] result.0 result.1 }
+    ensures { EndsAs (printing (Returns wasm.now) (choice config.now Form.Plain) (writer O.takes O.flushes O.uncreated)) out [] result.0 result.1 }
 {
     let mut printer = PrintOutput(out);
     let printed = config.print(alloc, wasm, &mut printer);
@@ -163,7 +165,7 @@ fn print_plain<O: Output>(alloc: Global, config: &Config, wasm: &[u8], out: O) -
 
 /// Prints a module with ANSI escape sequences. The text is complete before it is written. Returns the writer.
 fn print_colored<O: Output>(alloc: Global, config: &Config, wasm: &[u8], out: O) -> (Ended, O)
-    ensures { EndsAs (printing (Returns wasm.now) (choice config.now true) (writer O.takes O.flushes O.uncreated)) out [] result.0 result.1 }
+    ensures { EndsAs (printing (Returns wasm.now) (choice config.now Form.InColors) (writer O.takes O.flushes O.uncreated)) out [] result.0 result.1 }
 {
     let mut out = out;
     match config.print_to_ansi(alloc, wasm) {
@@ -172,6 +174,27 @@ fn print_colored<O: Output>(alloc: Global, config: &Config, wasm: &[u8], out: O)
             Err(error) => (Ended::Unwritten(error), out),
         },
         Err(error) => (Ended::Refused(Cause::Module(error)), out),
+    }
+}
+
+/// Prints the excerpt of a module's text that shows the byte at this offset. The excerpt is complete before it is
+/// written. Returns the writer.
+fn print_excerpt<O: Output>(
+    alloc: Global,
+    config: &Config,
+    wasm: &[u8],
+    offset: u64,
+    out: O,
+) -> (Ended, O)
+    ensures { EndsAs (printing (Returns wasm.now) (choice config.now (Form.Excerpt offset)) (writer O.takes O.flushes O.uncreated)) out [] result.0 result.1 }
+{
+    let mut out = out;
+    match excerpt_of(alloc, config, wasm, offset) {
+        Ok(text) => match out.write_bytes(text.as_bytes()) {
+            Ok(()) => finish(Ok(()), out),
+            Err(error) => (Ended::Unwritten(error), out),
+        },
+        Err(cause) => (Ended::Refused(cause), out),
     }
 }
 

@@ -250,7 +250,7 @@ where
 {
     let style = Style {
         config,
-        is_colored: request.is_colored(shows_colors),
+        form: request.form(shows_colors),
     };
     let files = &request.files;
     match request.output {
@@ -282,7 +282,7 @@ where
     F: Output + Drop,
     E: Messages,
     ensures { (failures : List Failure)
-        × PrintsToFile (Reads I.reads I.reads_input) (choice style.entry.config.now style.entry.is_colored) C.creates C.closes
+        × PrintsToFile (Reads I.reads I.reads_input) (choice style.entry.config.now style.entry.form) C.creates C.closes
         (writer F.takes F.flushes F.uncreated) path.now inputs.old outputs (map (λ f. f.now) files.now) failures inputs.new result.1
         × Reports E.sends err.old failures err.new × (result.0 ≡ status_of failures) }
 {

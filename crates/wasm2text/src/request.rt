@@ -1,9 +1,10 @@
 //! What the command line asks for.
 ghost use Rattle.std.specs.Prelude.{◌≡◌, IfOk, OnOk, is_none, option_copied};
-ghost use Rattle.wasm2text.specs.Arguments.{Flagged, WrittenTo, IndentedBy, Colored, File, request_of, with_input};
-ghost use Rattle.wasm2text.specs.Outcome.{is_colored};
+ghost use Rattle.wasm2text.specs.Arguments.{Flagged, WrittenTo, IndentedBy, Colored, At, File, request_of, with_input};
+ghost use Rattle.wasm2text.specs.Outcome.{is_colored, form_of};
 ghost use Rattle.wasm2text.specs.Parsing.{request_read, options_read, Adds};
 
+use crate::form::Form;
 use crate::options::{ColorChoice, Flag};
 use std::alloc::{AllocError, Global};
 use wasmprinter::Config;
@@ -11,8 +12,8 @@ use wasmprinter::Config;
 /// The name of standard input as a file.
 pub const STANDARD_INPUT: &str = "-";
 
-/// The text of one space of an indent.
-const SPACE: &str = " ";
+/// The text of one space.
+pub const SPACE: &str = " ";
 
 /// What the command line asks for.
 #[derive(Drop)]
@@ -35,6 +36,8 @@ pub struct Request<'a> {
     pub color: ColorChoice,
     /// The file to which the text is written, or `None` for standard output.
     pub output: Option<&'a str>,
+    /// The offset of the byte that the excerpt of each text shows, or `None` for whole texts.
+    pub at: Option<u64>,
     /// The files with modules, in order.
     pub files: Vec<&'a str>,
 }
@@ -56,6 +59,7 @@ impl<'a> Request<'a> {
             indent: None,
             color: ColorChoice::Auto,
             output: None,
+            at: None,
             files: Vec::new(alloc),
         }
     }
@@ -95,6 +99,13 @@ impl<'a> Request<'a> {
         self.color = color;
     }
 
+    /// Sets the offset of the byte that the excerpt of each text shows.
+    pub fn show_byte(&mut self, offset: u64)
+        ensures { Adds self.old (At offset) self.new }
+    {
+        self.at = Some(offset);
+    }
+
     /// Adds a file.
     pub fn add_file(&mut self, file: &'a str) -> Result<(), AllocError>
         ensures { OnOk result (Adds self.old (File file.now) self.new) }
@@ -130,8 +141,19 @@ impl<'a> Request<'a> {
         Ok(config)
     }
 
+    /// Returns what is written for each module, if standard output shows colors or does not. An excerpt has no colors.
+    pub fn form(&self, shows_colors: bool) -> Form
+        ensures { result ≡ form_of self.now.at (is_colored self.now.color (option_copied self.now.output) shows_colors) }
+    {
+        match self.at {
+            Some(offset) => Form::Excerpt(offset),
+            None if self.is_colored(shows_colors) => Form::InColors,
+            None => Form::Plain,
+        }
+    }
+
     /// Returns whether the text has ANSI escape sequences, if standard output shows colors or does not.
-    pub fn is_colored(&self, shows_colors: bool) -> bool
+    fn is_colored(&self, shows_colors: bool) -> bool
         ensures { result ≡ is_colored self.now.color (option_copied self.now.output) shows_colors }
     {
         match self.color {

@@ -9,7 +9,7 @@ pub returns-then-not-goes_on : goal.returns-then-not-goes_on
 returns-then-not-goes_on g c =
     let so_far = c.loop-file.invariant in
     let noted = c.note-last.ensures in
-    let p = series (Reads g.I.Inputs.reads g.I.Inputs.reads_input) (choice c.args.style.config.now c.args.style.is_colored)
+    let p = series (Reads g.I.Inputs.reads g.I.Inputs.reads_input) (choice c.args.style.config.now c.args.style.form)
     (writer g.O.Output.takes g.O.Output.flushes g.O.Output.uncreated) in
     let names : List (List ℕ) = map (λ (f : Bor (List ℕ)). f.now) c.args.files.now in (
       so_far.0 ++ noted.0,
@@ -24,7 +24,7 @@ pub loop-file-preserved : goal.loop-file-preserved
 loop-file-preserved g c =
     let so_far = c.loop-file.invariant in
     let noted = c.note-last.ensures in
-    let p = series (Reads g.I.Inputs.reads g.I.Inputs.reads_input) (choice c.args.style.config.now c.args.style.is_colored)
+    let p = series (Reads g.I.Inputs.reads g.I.Inputs.reads_input) (choice c.args.style.config.now c.args.style.form)
     (writer g.O.Output.takes g.O.Output.flushes g.O.Output.uncreated) in
     let names : List (List ℕ) = map (λ (f : Bor (List ℕ)). f.now) c.args.files.now in (
       so_far.0 ++ noted.0,
@@ -39,7 +39,7 @@ loop-file-preserved g c =
 pub returns : goal.returns
 returns g c =
     let so_far = c.loop-file.invariant in
-    let p = series (Reads g.I.Inputs.reads g.I.Inputs.reads_input) (choice c.args.style.config.now c.args.style.is_colored)
+    let p = series (Reads g.I.Inputs.reads g.I.Inputs.reads_input) (choice c.args.style.config.now c.args.style.form)
     (writer g.O.Output.takes g.O.Output.flushes g.O.Output.uncreated) in
     let names : List (List ℕ) = map (λ (f : Bor (List ℕ)). f.now) c.args.files.now in (
       so_far.0,

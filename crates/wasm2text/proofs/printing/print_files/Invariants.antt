@@ -7,7 +7,7 @@ use Rattle.wasm2text.proofs.printing.print_files.Given as goal
 
 abbrev pub invariant-loop-file : goal.invariant-loop-file
 invariant-loop-file g l =
-    let p = series (Reads g.I.Inputs.reads g.I.Inputs.reads_input) (choice l.fn.style.config.now l.fn.style.is_colored)
+    let p = series (Reads g.I.Inputs.reads g.I.Inputs.reads_input) (choice l.fn.style.config.now l.fn.style.form)
     (writer g.O.Output.takes g.O.Output.flushes g.O.Output.uncreated) in
     (failures : List Failure)
     × Reports g.E.Messages.sends l.fn.err failures l.err
