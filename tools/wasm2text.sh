@@ -247,6 +247,8 @@ case_of 0 --at 0x41 find.wasm
 case_of 0 find.wasm --at=67
 case_of 0 --color=always --at 0x41 find.wasm
 input_case 0 find.wasm --at 0x42
+case_of 0 --code-offset 0x10 find.wasm
+case_of 0 --at 0 find.wasm --code-offset=16
 cat >out <<'END'
   3   (export "f" (func 0))
   4   (func (;0;) (type 0) (param i32) (result i32)
@@ -256,6 +258,11 @@ cat >out <<'END'
 END
 echo 'wasm2text: empty.wasm: byte 0x22 is not in the module, which has 0x8 bytes' >err
 case_of 1 --at 34 empty.wasm same.wasm
+echo 'wasm2text: empty.wasm: module has no code section' >err
+case_of 1 --code-offset 5 empty.wasm same.wasm
+: >out
+echo 'wasm2text: same.wasm: byte 0xffffffffffffffff is not in the module, which has 0x23 bytes' >err
+case_of 1 --code-offset 0xffffffffffffffff same.wasm
 : >err
 
 # Output files. The first line of `out` starts what the file holds.
@@ -451,6 +458,8 @@ Options:
       --indent N           Indent each level by N spaces (default: 2)
       --color WHEN         Print in colors: auto, always or never (default: auto)
       --at OFFSET          Print only the lines around the byte at OFFSET
+      --code-offset OFFSET
+                           As --at, with OFFSET counted from the code section
   -o, --output FILE        Write to FILE instead of standard output
   -h, --help               Print this help
   -V, --version            Print the version
@@ -461,7 +470,8 @@ NO_COLOR is unset or empty, and there is no --output.
 With --at, the line that shows the byte is marked by >. Up to three lines before
 and after it are printed, and the header of its function, with their numbers in
 the whole text, without colors. OFFSET is a decimal number, or a hexadecimal one
-after 0x, and counts from the start of each module.
+after 0x. It counts from the start of each module or, with --code-offset, of the
+contents of its code section, as in DWARF.
 
 Exit status:
   0  all files were printed, or the reader of the text closed the pipe

@@ -1,7 +1,9 @@
 -- The excerpt of a module's text.
-use Rattle.std.specs.Prelude.{◌≡◌, ◌↔◌, ℕ, ◌+◌, ◌<◌, ◌≤◌, List, [], ◌∷◌, false, Option, Some, None, Result, Ok, Err, IfSome, IsErrOf, map, length, slice_get}
+use Rattle.std.specs.Prelude.{◌≡◌, ◌↔◌, ℕ, ◌+◌, ◌-◌, ◌<◌, ◌≤◌, ◌^◌, List, [], ◌∷◌, false, Option, Some, None, Result, Ok, Err, IfSome, IsErrOf, map, length, slice_get}
 use Rattle.std.specs.Borrow.{Bor}
 use Rattle.std.proofs.Common.{refl, sym, ap, ◌∙◌, subst, arith, inl, inr}
+use Rattle.std.proofs.Math.Nat.{min-eq_left, min-eq_right, le_of_lt}
+use Rattle.std.proofs.lemmas.Bool.{cases_lt}
 use Rattle.std.proofs.lemmas.List.{length-map}
 use Rattle.std.proofs.lemmas.Option.{slice_get_within}
 use Rattle.wasmprinter_bytes.specs.declared.library_error.Error.{Error}
@@ -21,10 +23,11 @@ use Rattle.wasmprinter.specs.Printed.{no_claims}
 use Rattle.wasmprinter.specs.TextOfFile.{AreRefused}
 use Rattle.wasmprinter.proofs.Named.{same_module}
 use Rattle.wasm2text.specs.declared.cause.Cause.{Cause}
-use Rattle.wasm2text.specs.declared.cause.Cause.TheVariants.{System as Unread, Module, NoByte, Output}
+use Rattle.wasm2text.specs.declared.cause.Cause.TheVariants.{System as Unread, Module, NoByte, NoCode, Output}
 use Rattle.wasm2text.specs.declared.form.Form.TheVariants.{Excerpt}
 use Rattle.wasm2text.specs.declared.printing.Ended.TheVariants.{Refused}
-use Rattle.wasm2text.specs.Excerpt.{StartsAtZero, ShowsByte, IsHeader, IsExcerptIn, IsExcerptOfLines, IsExcerptOf, IsExcerptRefusal, excerpt_text}
+use Rattle.wasm2text.specs.declared.target.Target.{Target}
+use Rattle.wasm2text.specs.Excerpt.{StartsAtZero, ShowsByte, IsHeader, IsExcerptIn, IsExcerptOfLines, IsExcerptOf, IsExcerptRefusal, IsTargetAt, HasOffset, saturated, excerpt_text}
 use Rattle.wasm2text.specs.Outcome.{Writer, Returns, printing, choice, EndsAs}
 use Rattle.wasm2text.proofs.Headers.{line_within}
 use Rattle.wasm2text.proofs.Texts.{writes_nothing}
@@ -68,15 +71,26 @@ excerpt_of_collected wasm m lines given offset index header text spells all show
     subst (λ (ls : List TextLine). IsExcerptOfLines wasm ls offset text) all
     (m, spells, record { index = index; shows = shows; header = header; is_header = is_header; is = is })
 
+-- An offset is exact if it is below the greatest number of 64 bits.
+exact : (offset number : ℕ) → number ≡ saturated offset → number < 2 ^ 64 - 1 → offset ≡ number
+exact offset number e lt =
+    elim (cases_lt (2 ^ 64 - 1) offset) [
+      | inl more ↦ absurd (omega (arith, lt, e ∙ min-eq_right (le_of_lt more)))
+      | inr le ↦ sym (min-eq_left le) ∙ sym e
+    ]
+
 -- The excerpt of these lines is that of the module's text.
-pub excerpt_of_text : (o : Options) (wasm old storage : List ℕ) (lines : List TextLine) (offset : ℕ) (text : List ℕ) → old ≡ [] →
-    HasLinesBy o wasm old storage lines → offset < length wasm → IsExcerptOfLines wasm lines offset text → IsExcerptOf o wasm offset text
-excerpt_of_text o wasm old storage lines offset text e has lt is =
+pub excerpt_of_text : (o : Options) (wasm old storage : List ℕ) (lines : List TextLine) (target : Target) (offset : ℕ) (text : List ℕ) → old ≡ [] →
+    HasLinesBy o wasm old storage lines → HasOffset target wasm offset → offset < length wasm → length wasm < 2 ^ 64 →
+    IsExcerptOfLines wasm lines offset text → IsExcerptOf o wasm target text
+excerpt_of_text o wasm old storage lines target offset text e has found lt small is =
     let given : HasLinesBy o wasm [] storage lines = subst (λ (t : List ℕ). HasLinesBy o wasm t storage lines) e has in
     record {
       whole = storage;
       lines = lines;
       given = given;
+      offset = offset;
+      is_at = subst (IsTargetAt target wasm) (exact found.0 offset found.2 (omega (arith, lt, small))) found.1;
       inside = lt;
       excerpt = subst (λ (m : PlacedModule). IsExcerptIn m lines offset text) (sym (same_module given.printed.decoded is.0 is.1)) is.2;
     }
@@ -96,9 +110,10 @@ refused_for_memory x o wasm old storage lines has component = record {
 }
 
 -- If there is no excerpt, nothing was written.
-pub ends_without_excerpt : {W : Type 0} (w : Writer W) (s : W) (o : Options) (wasm : List ℕ) (offset : ℕ) (cause : Cause) → IsExcerptRefusal o wasm offset cause →
-    EndsAs (printing (Returns wasm) (choice o (Excerpt offset)) w) s [] (Refused cause) s
-ends_without_excerpt w s o wasm offset (Module error) h = (refl, (wasm, [], refl, h, λ _. refl, inl refl, writes_nothing w s))
-ends_without_excerpt w s o wasm offset (NoByte at len) h = (refl, (wasm, refl, ap Excerpt (sym h.0), h.1, refl))
-ends_without_excerpt w s o wasm offset (Unread error) h = absurd h
-ends_without_excerpt w s o wasm offset (Output error) h = absurd h
+pub ends_without_excerpt : {W : Type 0} (w : Writer W) (s : W) (o : Options) (wasm : List ℕ) (target : Target) (cause : Cause) → IsExcerptRefusal o wasm target cause →
+    EndsAs (printing (Returns wasm) (choice o (Excerpt target)) w) s [] (Refused cause) s
+ends_without_excerpt w s o wasm target (Module error) h = (refl, (wasm, [], refl, h, λ _. refl, inl refl, writes_nothing w s))
+ends_without_excerpt w s o wasm target (NoByte offset len) h = (refl, (wasm, target, refl, refl, h, refl))
+ends_without_excerpt w s o wasm target NoCode h = (refl, (wasm, h.0, refl, ap Excerpt h.1, h.2, refl))
+ends_without_excerpt w s o wasm target (Unread error) h = absurd h
+ends_without_excerpt w s o wasm target (Output error) h = absurd h

@@ -9,4 +9,5 @@ pub mod Runs
 pub mod ShownLines
 pub mod Headers
 pub mod ExcerptLines
+pub mod CodeSections
 pub mod Excerpts

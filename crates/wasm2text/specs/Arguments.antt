@@ -8,9 +8,11 @@ use Rattle.wasm2text.specs.declared.misuse.ArgumentError.TheVariants.{UnknownOpt
 use Rattle.wasm2text.specs.declared.options.Flag.{Flag}
 use Rattle.wasm2text.specs.declared.options.Flag.TheVariants.{Help, Version, PrintOffsets, Skeleton, NameUnnamed, FoldInstructions}
 use Rattle.wasm2text.specs.declared.options.Setting.{Setting}
-use Rattle.wasm2text.specs.declared.options.Setting.TheVariants.{Output, Indent, Color, At as SetAt}
+use Rattle.wasm2text.specs.declared.options.Setting.TheVariants.{Output, Indent, Color, At as SetAt, CodeOffset as SetCodeOffset}
 use Rattle.wasm2text.specs.declared.options.ColorChoice.{ColorChoice}
 use Rattle.wasm2text.specs.declared.options.ColorChoice.TheVariants.{Auto, Always, Never}
+use Rattle.wasm2text.specs.declared.target.Target.{Target}
+use Rattle.wasm2text.specs.declared.target.Target.TheVariants.{Byte, CodeByte}
 
 -- The name is one of two names.
 abbrev pub is_either : List ℕ → List ℕ → List ℕ → Bool
@@ -34,6 +36,7 @@ setting_named name =
     else if bytes_eq name (codes "--indent") then Some Indent
     else if bytes_eq name (codes "--color") then Some Color
     else if bytes_eq name (codes "--at") then Some SetAt
+    else if bytes_eq name (codes "--code-offset") then Some SetCodeOffset
     else None
 
 -- The choice of colors that has this name.
@@ -54,7 +57,7 @@ pub data Argument : Type 0 where
   WrittenTo : List ℕ → Argument
   IndentedBy : ℕ → Argument
   Colored : ColorChoice → Argument
-  At : ℕ → Argument
+  Shows : Target → Argument
   File : List ℕ → Argument
 
 -- The word is a decimal number below 2 to the 32, which may start with `+`.
@@ -76,7 +79,8 @@ abbrev pub IsSetTo : Setting → List ℕ → Argument → Type 0
 IsSetTo Output value argument = argument ≡ WrittenTo value
 IsSetTo Indent value argument = (n : ℕ) × IsNumber value n × (argument ≡ IndentedBy n)
 IsSetTo Color value argument = (choice : ColorChoice) × (color_named value ≡ Some choice) × (argument ≡ Colored choice)
-IsSetTo SetAt value argument = (n : ℕ) × IsOffset value n × (argument ≡ At n)
+IsSetTo SetAt value argument = (n : ℕ) × IsOffset value n × (argument ≡ Shows (Byte n))
+IsSetTo SetCodeOffset value argument = (n : ℕ) × IsOffset value n × (argument ≡ Shows (CodeByte n))
 
 -- A word with this prefix is the option and its value.
 abbrev pub joined_start : Setting → List ℕ
@@ -84,6 +88,7 @@ joined_start Output = codes "--output="
 joined_start Indent = codes "--indent="
 joined_start Color = codes "--color="
 joined_start SetAt = codes "--at="
+joined_start SetCodeOffset = codes "--code-offset="
 
 -- These words are the option and its value: a name of it and the value, or one word.
 abbrev pub IsSetting : Setting → List ℕ → List (List ℕ) → Type 0
@@ -148,8 +153,8 @@ abbrev pub color_in : Argument → Option ColorChoice
 color_in (Colored choice) = Some choice
 color_in argument = None
 
-abbrev pub at_in : Argument → Option ℕ
-at_in (At n) = Some n
+abbrev pub at_in : Argument → Option Target
+at_in (Shows target) = Some target
 at_in argument = None
 
 abbrev pub file_in : Argument → Option (List ℕ)
@@ -186,7 +191,7 @@ pub record Request : Type 0 where
   pub options : Options
   pub color : ColorChoice
   pub output : Option (List ℕ)
-  pub at : Option ℕ
+  pub at : Option Target
   pub files : List (List ℕ)
 
 -- The request that the arguments make, in any order. An option may be repeated; its last value counts.

@@ -1,6 +1,6 @@
 -- The excerpt of a text that shows a byte of the module: the line that shows the byte, the lines around it, and the
 -- header of the byte's function.
-use Rattle.std.specs.Prelude.{◌≡◌, ℕ, ◌+◌, ◌-◌, ◌<◌, ◌≤◌, ◌⊎◌, List, [], ◌∷◌, ◌++◌, Bool, true, nat_lt, nat_le, ◌==◌, ◌&&◌, ◌||◌, if◌then◌else◌, Option, Some, None, slice_get, slice_range, length, min, codes, decimal}
+use Rattle.std.specs.Prelude.{◌≡◌, ℕ, ◌+◌, ◌-◌, ◌<◌, ◌≤◌, ◌^◌, ◌⊎◌, List, [], ◌∷◌, ◌++◌, Bool, true, nat_lt, nat_le, ◌==◌, ◌&&◌, ◌||◌, if◌then◌else◌, Option, Some, None, slice_get, slice_range, length, min, codes, decimal}
 use Rattle.std.specs.List.{repeat}
 use Rattle.wasmprinter_bytes.specs.declared.library_error.Error.{Error}
 use Rattle.wasmprinter_spec.specs.Grammar.{Placed}
@@ -11,9 +11,36 @@ use Rattle.wasmprinter_spec.specs.Lines.{TextLine, line_places, line_from}
 use Rattle.wasmprinter.specs.Printed.{IsTextOf}
 use Rattle.wasmprinter.specs.Lined.{HasLinesBy}
 use Rattle.wasmprinter.specs.TextOfFile.{AreRefused}
+use Rattle.wasm2text.specs.CodeSection.{IsCodeStart}
 use Rattle.wasm2text.specs.declared.excerpt.Window.{Window}
 use Rattle.wasm2text.specs.declared.cause.Cause.{Cause}
-use Rattle.wasm2text.specs.declared.cause.Cause.TheVariants.{Module, NoByte}
+use Rattle.wasm2text.specs.declared.cause.Cause.TheVariants.{Module, NoByte, NoCode}
+use Rattle.wasm2text.specs.declared.target.Target.{Target}
+use Rattle.wasm2text.specs.declared.target.Target.TheVariants.{Byte, CodeByte}
+
+-- ---- The byte
+
+-- The byte is at this offset from the start of the module. A byte of the code section is counted from the start of the
+-- section's contents.
+abbrev pub IsTargetAt : Target → List ℕ → ℕ → Type 0
+IsTargetAt (Byte offset) wasm at = at ≡ offset
+IsTargetAt (CodeByte offset) wasm at = (start : ℕ) × IsCodeStart wasm start × (at ≡ start + offset)
+
+-- The offset as a number of 64 bits: the greatest one if the offset is greater.
+abbrev pub saturated : ℕ → ℕ
+saturated offset = min offset (2 ^ 64 - 1)
+
+-- The number is the offset of the byte from the start of the module, as a number of 64 bits.
+abbrev pub HasOffset : Target → List ℕ → ℕ → Type 0
+HasOffset target wasm number = (at : ℕ) × IsTargetAt target wasm at × (number ≡ saturated at)
+
+-- The module has no code section.
+abbrev pub HasNoCode : List ℕ → Type 0
+HasNoCode wasm = (start : ℕ) → IsCodeStart wasm start → ⊥
+
+-- The byte is one of the code section, and the module has no code section.
+abbrev pub LacksCode : Target → List ℕ → Type 0
+LacksCode target wasm = (offset : ℕ) × (target ≡ CodeByte offset) × HasNoCode wasm
 
 -- ---- The line that shows a byte
 
@@ -123,27 +150,38 @@ pub record IsExcerptIn (m : PlacedModule) (lines : List TextLine) (offset : ℕ)
 abbrev pub IsExcerptOfLines : List ℕ → List TextLine → ℕ → List ℕ → Type 0
 IsExcerptOfLines wasm lines offset text = (m : PlacedModule) × Spells wasm m × IsExcerptIn m lines offset text
 
--- The bytes encode a module, and the text is the excerpt of the module's text with these options that shows the byte at
--- this offset.
-pub record IsExcerptOf (o : Options) (wasm : List ℕ) (offset : ℕ) (text : List ℕ) : Type 0 where
+-- The bytes encode a module, and the text is the excerpt of the module's text with these options that shows this byte.
+pub record IsExcerptOf (o : Options) (wasm : List ℕ) (target : Target) (text : List ℕ) : Type 0 where
   -- The text of the module, and its lines.
   pub whole : List ℕ
   pub lines : List TextLine
   pub given : HasLinesBy o wasm [] whole lines
-  -- The module has the byte.
+  -- The byte is at this offset, and the module has it.
+  pub offset : ℕ
+  pub is_at : IsTargetAt target wasm offset
   pub inside : offset < length wasm
   pub excerpt : IsExcerptIn given.printed.decoded.placed lines offset text
 
--- The bytes encode a module that can be printed with these options, and they are `len` bytes, so that there is none at
--- this offset.
-pub record HaveNoByte (o : Options) (wasm : List ℕ) (offset len : ℕ) : Type 0 where
+-- The bytes encode a module that can be printed with these options, and they are `len` bytes, so that the byte is not one
+-- of them. `number` is its offset, as a number of 64 bits.
+pub record HaveNoByte (o : Options) (wasm : List ℕ) (target : Target) (number len : ℕ) : Type 0 where
   pub text : List ℕ
   pub printed : IsTextOf o wasm text
   pub all : len ≡ length wasm
+  pub offset : ℕ
+  pub is_at : IsTargetAt target wasm offset
   pub outside : len ≤ offset
+  pub reported : number ≡ saturated offset
 
--- There is no excerpt, for this cause: the module can't be printed, or has no byte at the offset.
-abbrev pub IsExcerptRefusal : Options → List ℕ → ℕ → Cause → Type 0
-IsExcerptRefusal o wasm offset (Module error) = AreRefused o wasm error
-IsExcerptRefusal o wasm offset (NoByte at len) = (at ≡ offset) × HaveNoByte o wasm at len
-IsExcerptRefusal o wasm offset cause = ⊥
+-- The bytes encode a module that can be printed with these options, and has no code section.
+pub record HaveNoCode (o : Options) (wasm : List ℕ) : Type 0 where
+  pub text : List ℕ
+  pub printed : IsTextOf o wasm text
+  pub none : HasNoCode wasm
+
+-- There is no excerpt, for this cause: the module can't be printed, does not have the byte, or has no code section.
+abbrev pub IsExcerptRefusal : Options → List ℕ → Target → Cause → Type 0
+IsExcerptRefusal o wasm target (Module error) = AreRefused o wasm error
+IsExcerptRefusal o wasm target (NoByte number len) = HaveNoByte o wasm target number len
+IsExcerptRefusal o wasm target NoCode = (offset : ℕ) × (target ≡ CodeByte offset) × HaveNoCode o wasm
+IsExcerptRefusal o wasm target cause = ⊥

@@ -1,5 +1,6 @@
 -- Definitions that the contracts of the program cite.
 pub mod Arguments
+pub mod CodeSection
 pub mod Excerpt
 pub mod Messages
 pub mod Outcome

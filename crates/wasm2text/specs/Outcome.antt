@@ -12,12 +12,12 @@ use Rattle.wasmprinter.specs.Colored.{HasColoredTextBy}
 use Rattle.wasmprinter.specs.Prefix.{PutsPrefix}
 use Rattle.wasmprinter.specs.TextOfFile.{AreRefused}
 use Rattle.wasm2text.specs.Arguments.{Argument, IsCommandLine, IsArgumentError, Request, request_of, with_input}
-use Rattle.wasm2text.specs.Excerpt.{IsExcerptOf, HaveNoByte}
+use Rattle.wasm2text.specs.Excerpt.{IsExcerptOf, HaveNoByte, HaveNoCode}
 use Rattle.wasm2text.specs.Messages.{is_closed_pipe, Failure, failure_line, misuse_line}
 use Rattle.wasm2text.specs.OutputFiles.{Creating, Closing, WritesFile, FlushesFile, ClosesFile, uncreated_file}
 use Rattle.wasm2text.specs.OwnTexts.{help_text, version_text}
 use Rattle.wasm2text.specs.declared.cause.Cause.{Cause}
-use Rattle.wasm2text.specs.declared.cause.Cause.TheVariants.{System as Unread, Module, NoByte, Output}
+use Rattle.wasm2text.specs.declared.cause.Cause.TheVariants.{System as Unread, Module, NoByte, NoCode, Output}
 use Rattle.wasm2text.specs.declared.form.Form.{Form}
 use Rattle.wasm2text.specs.declared.form.Form.TheVariants.{Plain, InColors, Excerpt}
 use Rattle.wasm2text.specs.declared.printing.Ended.{Ended}
@@ -27,6 +27,8 @@ use Rattle.wasm2text.specs.declared.misuse.ArgumentError.{ArgumentError}
 use Rattle.wasm2text.specs.declared.misuse.ArgumentError.TheVariants.{Memory}
 use Rattle.wasm2text.specs.declared.options.ColorChoice.{ColorChoice}
 use Rattle.wasm2text.specs.declared.options.ColorChoice.TheVariants.{Auto, Always, Never}
+use Rattle.wasm2text.specs.declared.target.Target.{Target}
+use Rattle.wasm2text.specs.declared.target.Target.TheVariants.{CodeByte}
 
 -- What is written for a module: the options of printing, and the form, which is the text, the text with ANSI escape
 -- sequences, or an excerpt.
@@ -44,10 +46,10 @@ is_colored Never output shows_colors = false
 abbrev pub choice : Options → Form → Choice
 choice o form = record { options = o; form = form }
 
--- The form: an excerpt if the offset of a byte is given, and otherwise the text, with colors or without. An excerpt has no
+-- The form: an excerpt if a byte is given, and otherwise the text, with colors or without. An excerpt has no
 -- colors.
-abbrev pub form_of : Option ℕ → Bool → Form
-form_of (Some offset) colored = Excerpt offset
+abbrev pub form_of : Option Target → Bool → Form
+form_of (Some target) colored = Excerpt target
 form_of None colored = if colored then InColors else Plain
 
 -- The choice of a request, if standard output shows colors or does not.
@@ -58,7 +60,7 @@ choice_of request shows_colors = choice request.options (form_of request.at (is_
 abbrev pub HasTextIn : Form → Options → List ℕ → List ℕ → Type 0
 HasTextIn InColors o wasm text = HasColoredTextBy o wasm text
 HasTextIn Plain o wasm text = IsTextOf o wasm text
-HasTextIn (Excerpt offset) o wasm text = IsExcerptOf o wasm offset text
+HasTextIn (Excerpt target) o wasm text = IsExcerptOf o wasm target text
 
 -- The text is empty, or a prefix of the text of the module that the bytes encode, without ANSI escape sequences.
 abbrev pub IsBeginning : Options → List ℕ → List ℕ → Type 0
@@ -140,17 +142,21 @@ is_late c error = false
 abbrev pub IsCutText : Form → Options → List ℕ → List ℕ → Type 0
 IsCutText InColors o wasm text = (text ≡ []) × ((whole : List ℕ) × HasColoredTextBy o wasm whole)
 IsCutText Plain o wasm text = PutsPrefix o wasm (λ prefix. prefix ≡ text)
-IsCutText (Excerpt offset) o wasm text = (text ≡ []) × ((whole : List ℕ) × IsExcerptOf o wasm offset whole)
+IsCutText (Excerpt target) o wasm text = (text ≡ []) × ((whole : List ℕ) × IsExcerptOf o wasm target whole)
 
 -- This file was not printed, for this cause: it can't be read and nothing was written; its module is refused; its module
--- has no byte at the offset and nothing was written; or the text can't be written.
+-- does not have the byte, or has no code section, and nothing was written; or the text can't be written.
 abbrev pub FailsOn : {W : Type 0} → Printing W → W → List ℕ → Cause → W → Type 0
 FailsOn p old file (Unread error) new = p.may_read file (Err error) × (new ≡ old)
 FailsOn p old file (Module error) new =
     (wasm text : List ℕ) × p.may_read file (Ok wasm) × AreRefused p.choice.options wasm error
     × (is_late p.choice error ≡ false → text ≡ []) × IsBeginning p.choice.options wasm text × WritesAll p.out old text new
 FailsOn p old file (NoByte offset len) new =
-    (wasm : List ℕ) × p.may_read file (Ok wasm) × (p.choice.form ≡ Excerpt offset) × HaveNoByte p.choice.options wasm offset len × (new ≡ old)
+    (wasm : List ℕ) × (target : Target) × p.may_read file (Ok wasm) × (p.choice.form ≡ Excerpt target)
+    × HaveNoByte p.choice.options wasm target offset len × (new ≡ old)
+FailsOn p old file NoCode new =
+    (wasm : List ℕ) × (offset : ℕ) × p.may_read file (Ok wasm) × (p.choice.form ≡ Excerpt (CodeByte offset))
+    × HaveNoCode p.choice.options wasm × (new ≡ old)
 FailsOn p old file (Output error) new =
     (wasm text : List ℕ) × p.may_read file (Ok wasm)
     × ((IsCutText p.choice.form p.choice.options wasm text × StopsAfter p.out old text error new)

@@ -19,11 +19,13 @@ pub enum Cause {
     Module(Error),
     /// The module has no byte at this offset.
     NoByte {
-        /// The offset from the start of the module.
+        /// The offset from the start of the module, or `u64::MAX` if it is greater.
         offset: u64,
         /// The number of bytes of the module.
         len: u64,
     },
+    /// The module has no code section.
+    NoCode,
     /// The text can't be written.
     Output(io::Error),
 }
@@ -67,6 +69,7 @@ impl fmt::Display for Cause {
                 f,
                 "byte 0x{offset:x} is not in the module, which has 0x{len:x} bytes"
             ),
+            Cause::NoCode => f.write_str("module has no code section"),
             Cause::Output(error) => {
                 let name = kind_name(error.kind());
                 write!(f, "can't write the text: {name}")

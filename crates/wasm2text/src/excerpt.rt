@@ -6,6 +6,7 @@ ghost use Rattle.wasm2text.specs.Excerpt.{StartsAtZero, IsExcerptOfLines, IsExce
 use crate::cause::Cause;
 use crate::line_search::{header_of_byte, line_of_byte};
 use crate::request::SPACE;
+use crate::target::Target;
 use std::alloc::{AllocError, Global};
 use wasmprinter::wasm::decode;
 use wasmprinter::{Config, OffsetsAndLines};
@@ -13,18 +14,27 @@ use wasmprinter::{Config, OffsetsAndLines};
 /// The greatest number of lines before the line that shows the byte, and after it.
 const CONTEXT: usize = 3;
 
-/// Returns the excerpt of a module's text that shows the byte at this offset.
+/// Returns the excerpt of a module's text that shows a byte.
 ///
 /// # Errors
 ///
 /// - `Module`: the module can't be printed, or an allocation failed.
-/// - `NoByte`: the module has no byte at this offset.
-pub fn excerpt_of(alloc: Global, config: &Config, wasm: &[u8], offset: u64) -> Result<String, Cause>
-    ensures shown { IfOk result (λ text. IsExcerptOf config.now wasm.now offset (string_bytes text)) }
-    ensures refused { IfErr result (IsExcerptRefusal config.now wasm.now offset) }
+/// - `NoCode`: the byte is one of the code section, and the module has no code section.
+/// - `NoByte`: the module does not have the byte.
+pub fn excerpt_of(
+    alloc: Global,
+    config: &Config,
+    wasm: &[u8],
+    target: Target,
+) -> Result<String, Cause>
+    ensures shown { IfOk result (λ text. IsExcerptOf config.now wasm.now target (string_bytes text)) }
+    ensures refused { IfErr result (IsExcerptRefusal config.now wasm.now target) }
 {
     let mut storage = String::new(alloc);
     let lines = config.offsets_and_lines(alloc, wasm, &mut storage)?;
+    let Some(offset) = target.offset_in(wasm) else {
+        return Err(Cause::NoCode);
+    };
     let len = wasm.len() as u64;
     if offset >= len {
         return Err(Cause::NoByte { offset, len });

@@ -134,6 +134,33 @@ fn prints_the_lines_around_a_byte(rt: HostRuntime) -> Result<(), Fail> {
     Ok(())
 }
 
+/// The lines around line 2. Byte 0x15, the number of bodies, is the first byte of the code section's contents.
+const CODE_START: &str = "  1 (module
+> 2   (type (;0;) (func))
+  3   (func (;0;) (type 0)
+  4     nop
+  5     nop
+";
+
+/// Offsets from the start of the code section's contents, which is byte 0x15 of the first module and byte 0x37 of the
+/// second. Of several offsets the last one counts.
+const CODE_OFFSETS: &[Row] = &[
+    (&["--code-offset", "0", "long.wasm"], 0, CODE_START, ""),
+    (&["--code-offset", "0x7", "long.wasm"], 0, AFTER_THE_HEADER, ""),
+    (&["long.wasm", "--code-offset=7"], 0, AFTER_THE_HEADER, ""),
+    (&["--code-offset=0x0d", "long.wasm"], 0, LAST, ""),
+    (&["--code-offset=4", "hint.wasm"], 0, BEFORE_A_HINT, ""),
+    (&["--at=0", "--code-offset=13", "long.wasm"], 0, LAST, ""),
+    (&["--code-offset=13", "--at=0", "long.wasm"], 0, FIRST, ""),
+];
+
+#[test]
+fn prints_the_lines_around_a_byte_of_the_code_section(rt: HostRuntime) -> Result<(), Fail> {
+    let other = first_other_row(rt.alloc(), CODE_OFFSETS)?;
+    assert!(rt; other == None, "row {other:?}");
+    Ok(())
+}
+
 /// The excerpt with places and folded operators.
 const PLACED: &str = "   3 (;@17    ;)  (func (;0;) (type 0)
    5 (;@19    ;)    (nop)
@@ -217,6 +244,26 @@ const FAILURES: &[Row] = &[
         "wasm2text: empty.wasm: byte 0xffffffffffffffff is not in the module, which has 0x8 bytes\n",
     ),
     (
+        &["--code-offset=0", "empty.wasm", "cut.wasm", "long.wasm"],
+        1,
+        CODE_START,
+        "wasm2text: empty.wasm: module has no code section
+wasm2text: cut.wasm: malformed module at byte 0x0
+",
+    ),
+    (
+        &["--code-offset=14", "long.wasm"],
+        1,
+        "",
+        "wasm2text: long.wasm: byte 0x23 is not in the module, which has 0x23 bytes\n",
+    ),
+    (
+        &["--code-offset=18446744073709551615", "long.wasm"],
+        1,
+        "",
+        "wasm2text: long.wasm: byte 0xffffffffffffffff is not in the module, which has 0x23 bytes\n",
+    ),
+    (
         &["--at=9", "cut.wasm", "late.wasm", "none.wasm", "long.wasm"],
         1,
         FIRST,
@@ -236,6 +283,18 @@ fn reports_files_without_excerpts(rt: HostRuntime) -> Result<(), Fail> {
 
 /// Words that are no offsets.
 const MISUSES: &[Row] = &[
+    (
+        &["long.wasm", "--code-offset"],
+        2,
+        "",
+        "wasm2text: option '--code-offset' needs a value. Try 'wasm2text --help'.\n",
+    ),
+    (
+        &["--code-offset=-1", "long.wasm"],
+        2,
+        "",
+        "wasm2text: option '--code-offset' can't have the value '-1'. Try 'wasm2text --help'.\n",
+    ),
     (
         &["long.wasm", "--at"],
         2,

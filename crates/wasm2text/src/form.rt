@@ -1,5 +1,7 @@
 //! What is written for a module.
 
+use crate::target::Target;
+
 /// What is written for a module.
 #[derive(Clone, Copy)]
 pub enum Form {
@@ -7,6 +9,6 @@ pub enum Form {
     Plain,
     /// The text with ANSI escape sequences.
     InColors,
-    /// The excerpt of the text that shows the byte at this offset from the start of the module.
-    Excerpt(u64),
+    /// The excerpt of the text that shows this byte.
+    Excerpt(Target),
 }

@@ -15,6 +15,8 @@ Options:
       --indent N           Indent each level by N spaces (default: 2)
       --color WHEN         Print in colors: auto, always or never (default: auto)
       --at OFFSET          Print only the lines around the byte at OFFSET
+      --code-offset OFFSET
+                           As --at, with OFFSET counted from the code section
   -o, --output FILE        Write to FILE instead of standard output
   -h, --help               Print this help
   -V, --version            Print the version
@@ -25,7 +27,8 @@ NO_COLOR is unset or empty, and there is no --output.
 With --at, the line that shows the byte is marked by >. Up to three lines before
 and after it are printed, and the header of its function, with their numbers in
 the whole text, without colors. OFFSET is a decimal number, or a hexadecimal one
-after 0x, and counts from the start of each module.
+after 0x. It counts from the start of each module or, with --code-offset, of the
+contents of its code section, as in DWARF.
 
 Exit status:
   0  all files were printed, or the reader of the text closed the pipe

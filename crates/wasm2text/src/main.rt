@@ -4,6 +4,7 @@
 #[cfg(test)]
 mod call_tests;
 mod cause;
+mod code_section;
 mod escaped;
 mod excerpt;
 #[cfg(test)]
@@ -26,6 +27,7 @@ mod program_tests;
 mod request;
 mod status;
 mod system;
+mod target;
 
 use program::{BUFFER_LEN, run};
 use status::FAILED;

@@ -46,8 +46,10 @@ pub enum Setting {
     Indent,
     /// Whether the text has ANSI escape sequences.
     Color,
-    /// The offset of the byte that an excerpt of the text shows.
+    /// The offset of the byte that an excerpt of the text shows, from the start of the module.
     At,
+    /// The offset of the byte that an excerpt of the text shows, from the start of the code section's contents.
+    CodeOffset,
 }
 
 impl Setting {
@@ -60,6 +62,7 @@ impl Setting {
             "--indent" => Some(Setting::Indent),
             "--color" => Some(Setting::Color),
             "--at" => Some(Setting::At),
+            "--code-offset" => Some(Setting::CodeOffset),
             _ => None,
         }
     }
@@ -73,6 +76,7 @@ impl Setting {
             Setting::Indent => "--indent",
             Setting::Color => "--color",
             Setting::At => "--at",
+            Setting::CodeOffset => "--code-offset",
         }
     }
 }
@@ -93,6 +97,9 @@ pub fn joined(word: &str) -> Option<(Setting, &str)>
     }
     if let Some(value) = word.strip_prefix("--at=") {
         return Some((Setting::At, value));
+    }
+    if let Some(value) = word.strip_prefix("--code-offset=") {
+        return Some((Setting::CodeOffset, value));
     }
     None
 }

@@ -9,6 +9,7 @@ use crate::misuse::ArgumentError;
 use crate::offset::read_offset;
 use crate::options::{ColorChoice, Flag, Setting, is_dashed, joined};
 use crate::request::Request;
+use crate::target::Target;
 use std::alloc::Global;
 
 /// The word after which all words are files.
@@ -106,7 +107,14 @@ impl<'a> Parser<'a> {
             },
             Setting::At => match read_offset(value) {
                 Some(offset) => {
-                    self.request.show_byte(offset);
+                    self.request.show_byte(Target::Byte(offset));
+                    Ok(())
+                }
+                None => Err(ArgumentError::InvalidValue { setting, value }),
+            },
+            Setting::CodeOffset => match read_offset(value) {
+                Some(offset) => {
+                    self.request.show_byte(Target::CodeByte(offset));
                     Ok(())
                 }
                 None => Err(ArgumentError::InvalidValue { setting, value }),

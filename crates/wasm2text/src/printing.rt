@@ -11,6 +11,7 @@ use crate::output::{Output, PrintOutput};
 use crate::request::STANDARD_INPUT;
 use crate::status::{FAILED, PRINTED};
 use crate::system::Inputs;
+use crate::target::Target;
 use std::alloc::Global;
 use std::io;
 use wasmprinter::{Config, Error};
@@ -150,7 +151,7 @@ fn print_module<O: Output>(alloc: Global, style: Style<'_>, wasm: &[u8], out: O)
     match style.form {
         Form::Plain => print_plain(alloc, style.config, wasm, out),
         Form::InColors => print_colored(alloc, style.config, wasm, out),
-        Form::Excerpt(offset) => print_excerpt(alloc, style.config, wasm, offset, out),
+        Form::Excerpt(target) => print_excerpt(alloc, style.config, wasm, target, out),
     }
 }
 
@@ -177,19 +178,19 @@ fn print_colored<O: Output>(alloc: Global, config: &Config, wasm: &[u8], out: O)
     }
 }
 
-/// Prints the excerpt of a module's text that shows the byte at this offset. The excerpt is complete before it is
-/// written. Returns the writer.
+/// Prints the excerpt of a module's text that shows a byte. The excerpt is complete before it is written. Returns the
+/// writer.
 fn print_excerpt<O: Output>(
     alloc: Global,
     config: &Config,
     wasm: &[u8],
-    offset: u64,
+    target: Target,
     out: O,
 ) -> (Ended, O)
-    ensures { EndsAs (printing (Returns wasm.now) (choice config.now (Form.Excerpt offset)) (writer O.takes O.flushes O.uncreated)) out [] result.0 result.1 }
+    ensures { EndsAs (printing (Returns wasm.now) (choice config.now (Form.Excerpt target)) (writer O.takes O.flushes O.uncreated)) out [] result.0 result.1 }
 {
     let mut out = out;
-    match excerpt_of(alloc, config, wasm, offset) {
+    match excerpt_of(alloc, config, wasm, target) {
         Ok(text) => match out.write_bytes(text.as_bytes()) {
             Ok(()) => finish(Ok(()), out),
             Err(error) => (Ended::Unwritten(error), out),

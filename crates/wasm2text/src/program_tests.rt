@@ -416,6 +416,7 @@ const NAMES: &[&str] = &[
     " --indent N ",
     " --color WHEN ",
     " --at OFFSET ",
+    " --code-offset OFFSET\n",
     "-o, --output FILE ",
     "-h, --help ",
     "-V, --version ",

@@ -1,11 +1,12 @@
 //! What the command line asks for.
 ghost use Rattle.std.specs.Prelude.{◌≡◌, IfOk, OnOk, is_none, option_copied};
-ghost use Rattle.wasm2text.specs.Arguments.{Flagged, WrittenTo, IndentedBy, Colored, At, File, request_of, with_input};
+ghost use Rattle.wasm2text.specs.Arguments.{Flagged, WrittenTo, IndentedBy, Colored, Shows, File, request_of, with_input};
 ghost use Rattle.wasm2text.specs.Outcome.{is_colored, form_of};
 ghost use Rattle.wasm2text.specs.Parsing.{request_read, options_read, Adds};
 
 use crate::form::Form;
 use crate::options::{ColorChoice, Flag};
+use crate::target::Target;
 use std::alloc::{AllocError, Global};
 use wasmprinter::Config;
 
@@ -36,8 +37,8 @@ pub struct Request<'a> {
     pub color: ColorChoice,
     /// The file to which the text is written, or `None` for standard output.
     pub output: Option<&'a str>,
-    /// The offset of the byte that the excerpt of each text shows, or `None` for whole texts.
-    pub at: Option<u64>,
+    /// The byte that the excerpt of each text shows, or `None` for whole texts.
+    pub at: Option<Target>,
     /// The files with modules, in order.
     pub files: Vec<&'a str>,
 }
@@ -99,11 +100,11 @@ impl<'a> Request<'a> {
         self.color = color;
     }
 
-    /// Sets the offset of the byte that the excerpt of each text shows.
-    pub fn show_byte(&mut self, offset: u64)
-        ensures { Adds self.old (At offset) self.new }
+    /// Sets the byte that the excerpt of each text shows.
+    pub fn show_byte(&mut self, target: Target)
+        ensures { Adds self.old (Shows target) self.new }
     {
-        self.at = Some(offset);
+        self.at = Some(target);
     }
 
     /// Adds a file.
@@ -146,7 +147,7 @@ impl<'a> Request<'a> {
         ensures { result ≡ form_of self.now.at (is_colored self.now.color (option_copied self.now.output) shows_colors) }
     {
         match self.at {
-            Some(offset) => Form::Excerpt(offset),
+            Some(target) => Form::Excerpt(target),
             None if self.is_colored(shows_colors) => Form::InColors,
             None => Form::Plain,
         }

@@ -8,6 +8,7 @@ excerpt_of_lines-requires c = starts_at_zero c.args.config.now c.args.wasm.now _
 
 pub returns-clause-shown : goal.returns-clause-shown
 returns-clause-shown c =
-    excerpt_of_text c.args.config.now c.args.wasm.now (string_bytes c.new-storage.result) c.in_ok-lines.lines.storage c.in_ok-lines.lines.lines c.args.offset
-    (string_bytes c.in_ok-excerpt_of_lines.field-0) c.new-storage.ensures.bytes c.in_ok-lines.ensures.lines (omega (arith, c.if-offset-len.false))
+    excerpt_of_text c.args.config.now c.args.wasm.now (string_bytes c.new-storage.result) c.in_ok-lines.lines.storage c.in_ok-lines.lines.lines c.args.target c.in-Some.offset
+    (string_bytes c.in_ok-excerpt_of_lines.field-0) c.new-storage.ensures.bytes c.in_ok-lines.ensures.lines c.in-Some.ensures
+    (omega (arith, c.if-offset-len.false)) (omega arith)
     c.in_ok-excerpt_of_lines.ensures

@@ -11,7 +11,7 @@ returns-in-Ok-write_bytes g c =
     let w = writer g.O.Output.takes g.O.Output.flushes g.O.Output.uncreated in
     let wasm = c.args.wasm.now in
     let text = string_bytes c.in-Ok.text in
-    ends_written (printing (Returns wasm) (choice c.args.config.now (Excerpt c.args.offset)) w) [] wasm text c.args.out c.write_bytes.new.self
+    ends_written (printing (Returns wasm) (choice c.args.config.now (Excerpt c.args.target)) w) [] wasm text c.args.out c.write_bytes.new.self
     c.finish.result.1 c.finish.result.0 refl c.in-Ok.ensures.shown
     (writes_once w c.args.out text c.write_bytes.new.self (rw c.as_bytes.ensures.value at c.in-Ok-write_bytes.ensures))
     c.finish.ensures
@@ -30,5 +30,5 @@ returns-in-Ok g c =
 
 pub returns : goal.returns
 returns g c =
-    ends_without_excerpt (writer g.O.Output.takes g.O.Output.flushes g.O.Output.uncreated) c.args.out c.args.config.now c.args.wasm.now c.args.offset
+    ends_without_excerpt (writer g.O.Output.takes g.O.Output.flushes g.O.Output.uncreated) c.args.out c.args.config.now c.args.wasm.now c.args.target
     c.in-Err.cause c.in-Err.ensures.refused

@@ -1,6 +1,7 @@
 -- The option is set, or can't have this value.
 use Rattle.std.proofs.Common.{refl, sym}
-use Rattle.wasm2text.specs.Arguments.{WrittenTo, IndentedBy, Colored, At}
+use Rattle.wasm2text.specs.Arguments.{WrittenTo, IndentedBy, Colored, Shows}
+use Rattle.wasm2text.specs.declared.target.Target.TheVariants.{Byte, CodeByte}
 use Rattle.wasm2text.proofs.parser.Parser.set.Goals as goal
 
 pub returns-in-Output : goal.returns-in-Output
@@ -18,7 +19,7 @@ returns-in-Some c =
 pub returns-in-Some-read_offset : goal.returns-in-Some-read_offset
 returns-in-Some-read_offset c =
     let offset = c.in-Some-read_offset.offset in
-    rw c.in-At.is (At offset, (offset, c.in-Some-read_offset.ensures, refl), (c.show_byte.ensures, refl))
+    rw c.in-At.is (Shows (Byte offset), (offset, c.in-Some-read_offset.ensures, refl), (c.show_byte.ensures, refl))
 
 pub returns-in-None-read_offset : goal.returns-in-None-read_offset
 returns-in-None-read_offset c = rw c.in-At.is (refl, λ argument is. c.in-None-read_offset.ensures is.0 is.1)
