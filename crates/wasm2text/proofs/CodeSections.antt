@@ -4,7 +4,7 @@ use Rattle.std.proofs.Common.{refl, sym, ap, ◌∙◌, subst}
 use Rattle.std.proofs.lemmas.List.{append_cancel_left}
 use Rattle.wasmprinter_spec.specs.Grammar.{Input, input, Placed, some_is}
 use Rattle.wasmprinter_spec.specs.Binary.{preamble_bytes}
-use Rattle.wasm2text.specs.CodeSection.{any_section, IsSection, HasCodeAt, here, later, IsCodeStart, HasOneCodeStart}
+use Rattle.wasm2text.specs.CodeSection.{any_section, IsSection, HasCodeAt, here, later, IsCodeStart, CodeStartsOnce}
 
 -- A section, as it is read.
 abbrev pub Section : Type 0
@@ -67,5 +67,5 @@ code_once at p q (later {after = after} {id = id} {contents = contents} ne s g) 
     let x : Section = ((id, record { place = contents; value = s.0 }), after) in
     code_once after p q g (skips at q x (any_section.complete at x s.1) ne h)
 
-pub unique : HasOneCodeStart
+pub unique : CodeStartsOnce
 unique wasm p q a (sections, e, h) = code_once (input (length preamble_bytes) sections) p q (of_sections wasm sections p e a) h

@@ -10,4 +10,5 @@ pub mod ShownLines
 pub mod Headers
 pub mod ExcerptLines
 pub mod CodeSections
+pub mod CodeOfModules
 pub mod Excerpts

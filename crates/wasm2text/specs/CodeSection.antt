@@ -1,9 +1,10 @@
 -- Where the contents of a module's code section start (section 5.5 of the standard, "Sections").
-use Rattle.std.specs.Prelude.{◌≡◌, ◌≢◌, ℕ, List, ◌++◌, length}
+use Rattle.std.specs.Prelude.{◌≡◌, ◌≢◌, ℕ, List, [], ◌++◌, length}
 use Rattle.wasmprinter_spec.specs.Grammar.{Input, input, Spans, Grammar, Placed, byte, seq, map_value, value_with_place}
 use Rattle.wasmprinter_spec.specs.Sized.{take_bytes}
 use Rattle.wasmprinter_spec.specs.Name.{u32}
-use Rattle.wasmprinter_spec.specs.Binary.{preamble_bytes}
+use Rattle.wasmprinter_spec.specs.Placed.{PlacedModule}
+use Rattle.wasmprinter_spec.specs.Binary.{Spells, preamble_bytes}
 
 -- A section of any kind: its id, its size n, and its contents, which are n bytes, with the place of the first of them.
 abbrev pub any_section : Grammar (ℕ × Placed (List ℕ))
@@ -25,5 +26,9 @@ abbrev pub IsCodeStart : List ℕ → ℕ → Type 0
 IsCodeStart wasm place = (sections : List ℕ) × (wasm ≡ preamble_bytes ++ sections) × HasCodeAt (input (length preamble_bytes) sections) place
 
 -- Bytes have at most one such place.
-abbrev pub HasOneCodeStart : Type 0
-HasOneCodeStart = (wasm : List ℕ) (p q : ℕ) → IsCodeStart wasm p → IsCodeStart wasm q → p ≡ q
+abbrev pub CodeStartsOnce : Type 0
+CodeStartsOnce = (wasm : List ℕ) (p q : ℕ) → IsCodeStart wasm p → IsCodeStart wasm q → p ≡ q
+
+-- Bytes that encode a module with functions have such a place.
+abbrev pub FunctionsHaveCode : Type 0
+FunctionsHaveCode = (wasm : List ℕ) (m : PlacedModule) → Spells wasm m → m.functions ≢ [] → (place : ℕ) × IsCodeStart wasm place

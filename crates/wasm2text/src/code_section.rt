@@ -1,7 +1,7 @@
 //! Finding the code section of a module (section 5.5 of the WebAssembly Core Specification, "Sections").
 ghost use Rattle.std.specs.Prelude.{ℕ, ◌<◌, MatchOption, OnOk};
 ghost use Rattle.wasmprinter_bytes.specs.Reads.{Decodes};
-ghost use Rattle.wasm2text.specs.CodeSection.{any_section, IsCodeStart, HasOneCodeStart};
+ghost use Rattle.wasm2text.specs.CodeSection.{any_section, IsCodeStart, CodeStartsOnce, FunctionsHaveCode};
 
 use wasmprinter_bytes::Malformed;
 use wasmprinter_bytes::cursor::Cursor;
@@ -46,7 +46,9 @@ fn read_section<'a>(cursor: &mut Cursor<'a>) -> Result<Section<'a>, Malformed>
     Ok(Section { id, contents })
 }
 
-/// States that a module has at most one such place. Has no code: this is a law over the definition of the place.
-pub fn code_start_is_unique()
-    ensures { HasOneCodeStart }
+/// States that bytes have at most one such place, and one if they encode a module with functions. Has no code: these are
+/// laws over the definition of the place.
+pub fn code_starts_once()
+    ensures unique { CodeStartsOnce }
+    ensures exists { FunctionsHaveCode }
 {}

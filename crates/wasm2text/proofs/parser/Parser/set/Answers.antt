@@ -23,3 +23,15 @@ returns-in-Some-read_offset c =
 
 pub returns-in-None-read_offset : goal.returns-in-None-read_offset
 returns-in-None-read_offset c = rw c.in-At.is (refl, λ argument is. c.in-None-read_offset.ensures is.0 is.1)
+
+pub returns-in-Some-read_offset-2 : goal.returns-in-Some-read_offset-2
+returns-in-Some-read_offset-2 c =
+    let offset = c.in-Some-read_offset-2.offset in
+    rw c.in-CodeOffset.is (
+      Shows (CodeByte offset),
+      (offset, c.in-Some-read_offset-2.ensures, refl),
+      (c.show_byte-in-Some-read_offset-2.ensures, refl),
+    )
+
+pub returns-in-None-read_offset-2 : goal.returns-in-None-read_offset-2
+returns-in-None-read_offset-2 c = rw c.in-CodeOffset.is (refl, λ argument is. c.in-None-read_offset-2.ensures is.0 is.1)
