@@ -146,7 +146,12 @@ const CODE_START: &str = "  1 (module
 /// second. Of several offsets the last one counts.
 const CODE_OFFSETS: &[Row] = &[
     (&["--code-offset", "0", "long.wasm"], 0, CODE_START, ""),
-    (&["--code-offset", "0x7", "long.wasm"], 0, AFTER_THE_HEADER, ""),
+    (
+        &["--code-offset", "0x7", "long.wasm"],
+        0,
+        AFTER_THE_HEADER,
+        "",
+    ),
     (&["long.wasm", "--code-offset=7"], 0, AFTER_THE_HEADER, ""),
     (&["--code-offset=0x0d", "long.wasm"], 0, LAST, ""),
     (&["--code-offset=4", "hint.wasm"], 0, BEFORE_A_HINT, ""),

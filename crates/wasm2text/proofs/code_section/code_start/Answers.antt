@@ -20,9 +20,10 @@ returns-then-section-eq-CODE c =
 pub loop-section-preserved : goal.loop-section-preserved
 loop-section-preserved c place =
     let (there, back) = c.loop-section.invariant place in
-    let read = c.in-Ok.ensures.reads.reads in
-    (λ h. skips c.loop-section.cursor place _ read c.if-section-eq-CODE.false (there h),
-    λ h. back (goes_back c.loop-section.cursor place _ read c.if-section-eq-CODE.false h))
+    let read = c.in-Ok.ensures.reads.reads in (
+      λ h. skips c.loop-section.cursor place _ read c.if-section-eq-CODE.false (there h),
+      λ h. back (goes_back c.loop-section.cursor place _ read c.if-section-eq-CODE.false h),
+    )
 
 pub returns : goal.returns
 returns c place h =
