@@ -108,12 +108,3 @@ refused_for_memory x o wasm old storage lines has component = record {
   refused = record { true_of = inr has.printed.decoded; caused = λ placed spells. tt };
   component = (λ e. absurd (other_error e), λ is. absurd (no_error x Component (component.1 is)));
 }
-
--- If there is no excerpt, nothing was written.
-pub ends_without_excerpt : {W : Type 0} (w : Writer W) (s : W) (o : Options) (wasm : List ℕ) (target : Target) (cause : Cause) → IsExcerptRefusal o wasm target cause →
-    EndsAs (printing (Returns wasm) (choice o (Excerpt target)) w) s [] (Refused cause) s
-ends_without_excerpt w s o wasm target (Module error) h = (refl, (wasm, [], refl, h, λ _. refl, inl refl, writes_nothing w s))
-ends_without_excerpt w s o wasm target (NoByte offset len) h = (refl, (wasm, target, refl, refl, h, refl))
-ends_without_excerpt w s o wasm target NoCode h = (refl, (wasm, h.0, refl, ap Excerpt h.1, h.2, refl))
-ends_without_excerpt w s o wasm target (Unread error) h = absurd h
-ends_without_excerpt w s o wasm target (Output error) h = absurd h

@@ -12,3 +12,7 @@ pub mod ExcerptLines
 pub mod CodeSections
 pub mod CodeOfModules
 pub mod Excerpts
+pub mod FunctionLines
+pub mod FunctionPlaces
+pub mod FunctionTexts
+pub mod Parts

@@ -17,9 +17,9 @@ use Rattle.wasmprinter_bytes.specs.declared.library_error.Error.{Error}
 use Rattle.wasmprinter_bytes.specs.declared.library_error.Error.TheVariants.{Malformed, Component, TooManyLocals, TooManyFunctions, EmptyTableInit, FoldLegacy, FoldHint, DylinkSubsection, Unreadable, Printer, Memory as OutOfSpace}
 use Rattle.wasmprinter_bytes.specs.Messages.{place_text, error_text}
 use Rattle.wasm2text.specs.declared.cause.Cause.{Cause}
-use Rattle.wasm2text.specs.declared.cause.Cause.TheVariants.{System, Module, NoByte, NoCode, Output}
+use Rattle.wasm2text.specs.declared.cause.Cause.TheVariants.{System, Module, NoByte, NoCode, NoFunction, Output}
 use Rattle.wasm2text.specs.declared.options.Setting.{Setting}
-use Rattle.wasm2text.specs.declared.options.Setting.TheVariants.{Output as SetOutput, Indent, Color, At, CodeOffset}
+use Rattle.wasm2text.specs.declared.options.Setting.TheVariants.{Output as SetOutput, Indent, Color, At, CodeOffset, Func}
 use Rattle.wasm2text.specs.declared.misuse.ArgumentError.{ArgumentError}
 use Rattle.wasm2text.specs.declared.misuse.ArgumentError.TheVariants.{UnknownOption, MissingValue, InvalidValue, Memory}
 use Rattle.wasm2text.specs.Messages.{kind_name, cause_text, is_escaped, message_char, in_message, long_name, misuse_text, Failure, failure_line, misuse_line, IsLine}
@@ -186,6 +186,7 @@ cause (NoByte offset len) =
     (both_printable (codes " is not in the module, which has 0x") (digits 16 false len ++ codes " bytes") refl
     (both_printable (digits 16 false len) (codes " bytes") (hex len) refl)))
 cause NoCode = refl
+cause NoFunction = refl
 cause (Output e) = both_printable (codes "can't write the text: ") (kind_name (error_kind e)) refl (kind (error_kind e))
 
 -- The errors of the command line have no control characters.
@@ -201,6 +202,7 @@ before_value Indent = refl
 before_value Color = refl
 before_value At = refl
 before_value CodeOffset = refl
+before_value Func = refl
 
 misuse : (e : ArgumentError) → NoCharPasses is_control (misuse_text e)
 misuse (UnknownOption word) = around (codes "unknown option '") word.now (codes "'") refl refl

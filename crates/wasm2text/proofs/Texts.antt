@@ -25,11 +25,10 @@ use Rattle.wasmprinter.proofs.Texts.{IsPlainly, plainly_printed, module_text}
 use Rattle.wasmprinter.proofs.Prefixes.{failed_puts, stopped_puts}
 use Rattle.wasmprinter.proofs.Outcomes.{text_refusal}
 use Rattle.wasmprinter.proofs.TextOfFile.{component_error}
-use Rattle.wasm2text.specs.declared.cause.Cause.TheVariants.{System as Unread, Module, NoByte, NoCode, Output}
-use Rattle.wasm2text.specs.declared.form.Form.TheVariants.{Plain}
+use Rattle.wasm2text.specs.declared.cause.Cause.TheVariants.{System as Unread, Module, NoByte, NoCode, NoFunction, Output}
 use Rattle.wasm2text.specs.declared.printing.Ended.{Ended}
 use Rattle.wasm2text.specs.declared.printing.Ended.TheVariants.{Printed as Delivered, Refused, Unwritten}
-use Rattle.wasm2text.specs.Outcome.{Choice, Returns, HasTextIn, IsBeginning, IsCutText, Writer, WritesAll, Delivers, StopsAfter, StaysBehind, Printing, printing, choice, is_late, EndsAs, EndsBy}
+use Rattle.wasm2text.specs.Outcome.{Choice, Plain, Returns, HasTextIn, IsBeginning, IsCutText, Writer, WritesAll, Delivers, StopsAfter, StaysBehind, Printing, printing, choice, is_late, EndsAs, EndsBy}
 
 -- The pieces of text that calls write.
 abbrev pieces_of : List Call → List (List ℕ)
@@ -238,5 +237,6 @@ ends_from may_read by w wasm file old (Refused (Unread error)) new read h = (h.0
 ends_from may_read by w wasm file old (Refused (Module error)) new read h = (h.0, (h.1.0, h.1.1, rw h.1.2 read, h.1.3, h.1.4, h.1.5, h.1.6))
 ends_from may_read by w wasm file old (Refused (NoByte offset len)) new read h = (h.0, (h.1.0, h.1.1, rw h.1.2 read, h.1.3, h.1.4, h.1.5))
 ends_from may_read by w wasm file old (Refused NoCode) new read h = (h.0, (h.1.0, h.1.1, rw h.1.2 read, h.1.3, h.1.4, h.1.5))
+ends_from may_read by w wasm file old (Refused NoFunction) new read h = (h.0, (h.1.0, h.1.1, rw h.1.2 read, h.1.3, h.1.4, h.1.5))
 ends_from may_read by w wasm file old (Refused (Output error)) new read h = (h.0, (h.1.0, h.1.1, rw h.1.2 read, h.1.3))
 ends_from may_read by w wasm file old (Unwritten error) new read h = (h.0, h.1, rw h.2 read, h.3)

@@ -3,15 +3,16 @@ use Rattle.std.specs.Prelude.{◌≡◌, ◌≢◌, ℕ, ◌^◌, ◌<◌, ◌�
 use Rattle.std.specs.List.{starts_with, list_any, filter_map, last_or, repeat}
 use Rattle.std.specs.Str.Parse.{IsNumeral, digits_value, without_leading_plus}
 use Rattle.wasmprinter_spec.specs.Options.{Options, defaults}
+use Rattle.wasm2text.specs.FunctionText.{Function, Index, Identifier}
+use Rattle.wasm2text.specs.Parts.{Part, Excerpt, OneFunction}
 use Rattle.wasm2text.specs.declared.misuse.ArgumentError.{ArgumentError}
 use Rattle.wasm2text.specs.declared.misuse.ArgumentError.TheVariants.{UnknownOption, MissingValue, InvalidValue, Memory}
 use Rattle.wasm2text.specs.declared.options.Flag.{Flag}
 use Rattle.wasm2text.specs.declared.options.Flag.TheVariants.{Help, Version, PrintOffsets, Skeleton, NameUnnamed, FoldInstructions}
 use Rattle.wasm2text.specs.declared.options.Setting.{Setting}
-use Rattle.wasm2text.specs.declared.options.Setting.TheVariants.{Output, Indent, Color, At as SetAt, CodeOffset as SetCodeOffset}
+use Rattle.wasm2text.specs.declared.options.Setting.TheVariants.{Output, Indent, Color, At as SetAt, CodeOffset as SetCodeOffset, Func as SetFunc}
 use Rattle.wasm2text.specs.declared.options.ColorChoice.{ColorChoice}
 use Rattle.wasm2text.specs.declared.options.ColorChoice.TheVariants.{Auto, Always, Never}
-use Rattle.wasm2text.specs.declared.target.Target.{Target}
 use Rattle.wasm2text.specs.declared.target.Target.TheVariants.{Byte, CodeByte}
 
 -- The name is one of two names.
@@ -37,6 +38,7 @@ setting_named name =
     else if bytes_eq name (codes "--color") then Some Color
     else if bytes_eq name (codes "--at") then Some SetAt
     else if bytes_eq name (codes "--code-offset") then Some SetCodeOffset
+    else if bytes_eq name (codes "--func") then Some SetFunc
     else None
 
 -- The choice of colors that has this name.
@@ -57,7 +59,7 @@ pub data Argument : Type 0 where
   WrittenTo : List ℕ → Argument
   IndentedBy : ℕ → Argument
   Colored : ColorChoice → Argument
-  Shows : Target → Argument
+  Shows : Part → Argument
   File : List ℕ → Argument
 
 -- The word is a decimal number below 2 to the 32, which may start with `+`.
@@ -74,13 +76,21 @@ IsOffsetIn base digits n = IsNumeral base digits × (digits_value base digits < 
 abbrev pub IsOffset : List ℕ → ℕ → Type 0
 IsOffset word n = IsOffsetIn 10 word n ⊎ ((digits : List ℕ) × (word ≡ codes "0x" ++ digits) × IsOffsetIn 16 digits n)
 
+-- The word names this function: by a dollar sign and the rest of its identifier, or by its index, which is written as an
+-- offset is.
+abbrev pub IsFunctionWord : List ℕ → Function → Type 0
+IsFunctionWord word function =
+    ((content : List ℕ) × (word ≡ codes "$" ++ content) × (function ≡ Identifier content))
+    ⊎ ((n : ℕ) × IsOffset word n × (function ≡ Index n))
+
 -- The option with this value is this argument.
 abbrev pub IsSetTo : Setting → List ℕ → Argument → Type 0
 IsSetTo Output value argument = argument ≡ WrittenTo value
 IsSetTo Indent value argument = (n : ℕ) × IsNumber value n × (argument ≡ IndentedBy n)
 IsSetTo Color value argument = (choice : ColorChoice) × (color_named value ≡ Some choice) × (argument ≡ Colored choice)
-IsSetTo SetAt value argument = (n : ℕ) × IsOffset value n × (argument ≡ Shows (Byte n))
-IsSetTo SetCodeOffset value argument = (n : ℕ) × IsOffset value n × (argument ≡ Shows (CodeByte n))
+IsSetTo SetAt value argument = (n : ℕ) × IsOffset value n × (argument ≡ Shows (Excerpt (Byte n)))
+IsSetTo SetCodeOffset value argument = (n : ℕ) × IsOffset value n × (argument ≡ Shows (Excerpt (CodeByte n)))
+IsSetTo SetFunc value argument = (function : Function) × IsFunctionWord value function × (argument ≡ Shows (OneFunction function))
 
 -- A word with this prefix is the option and its value.
 abbrev pub joined_start : Setting → List ℕ
@@ -89,6 +99,7 @@ joined_start Indent = codes "--indent="
 joined_start Color = codes "--color="
 joined_start SetAt = codes "--at="
 joined_start SetCodeOffset = codes "--code-offset="
+joined_start SetFunc = codes "--func="
 
 -- These words are the option and its value: a name of it and the value, or one word.
 abbrev pub IsSetting : Setting → List ℕ → List (List ℕ) → Type 0
@@ -153,9 +164,9 @@ abbrev pub color_in : Argument → Option ColorChoice
 color_in (Colored choice) = Some choice
 color_in argument = None
 
-abbrev pub at_in : Argument → Option Target
-at_in (Shows target) = Some target
-at_in argument = None
+abbrev pub part_in : Argument → Option Part
+part_in (Shows part) = Some part
+part_in argument = None
 
 abbrev pub file_in : Argument → Option (List ℕ)
 file_in (File file) = Some file
@@ -191,7 +202,7 @@ pub record Request : Type 0 where
   pub options : Options
   pub color : ColorChoice
   pub output : Option (List ℕ)
-  pub at : Option Target
+  pub part : Option Part
   pub files : List (List ℕ)
 
 -- The request that the arguments make, in any order. An option may be repeated; its last value counts.
@@ -208,7 +219,7 @@ request_of arguments = record {
   };
   color = unwrap_or (last_of color_in arguments) Auto;
   output = last_of output_in arguments;
-  at = last_of at_in arguments;
+  part = last_of part_in arguments;
   files = filter_map file_in arguments;
 }
 

@@ -2,8 +2,10 @@
 pub mod Arguments
 pub mod CodeSection
 pub mod Excerpt
+pub mod FunctionText
 pub mod Messages
 pub mod Outcome
 pub mod OutputFiles
 pub mod OwnTexts
 pub mod Parsing
+pub mod Parts

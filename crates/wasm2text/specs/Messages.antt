@@ -10,9 +10,9 @@ use Rattle.std.specs.declared.io.ErrorKind.{ErrorKind}
 use Rattle.std.specs.declared.io.ErrorKind.TheVariants.{NotFound, PermissionDenied, IsADirectory, NotADirectory, InvalidFilename, FilesystemLoop, ReadOnlyFilesystem, StorageFull, QuotaExceeded, FileTooLarge, BrokenPipe, OutOfMemory}
 use Rattle.wasmprinter_bytes.specs.Messages.{error_text}
 use Rattle.wasm2text.specs.declared.cause.Cause.{Cause}
-use Rattle.wasm2text.specs.declared.cause.Cause.TheVariants.{System, Module, NoByte, NoCode, Output}
+use Rattle.wasm2text.specs.declared.cause.Cause.TheVariants.{System, Module, NoByte, NoCode, NoFunction, Output}
 use Rattle.wasm2text.specs.declared.options.Setting.{Setting}
-use Rattle.wasm2text.specs.declared.options.Setting.TheVariants.{Output as SetOutput, Indent, Color, At, CodeOffset}
+use Rattle.wasm2text.specs.declared.options.Setting.TheVariants.{Output as SetOutput, Indent, Color, At, CodeOffset, Func}
 use Rattle.wasm2text.specs.declared.misuse.ArgumentError.{ArgumentError}
 use Rattle.wasm2text.specs.declared.misuse.ArgumentError.TheVariants.{UnknownOption, MissingValue, InvalidValue, Memory}
 
@@ -44,6 +44,7 @@ cause_text (Module error) = error_text error
 cause_text (NoByte offset len) =
     codes "byte 0x" ++ (digits 16 false offset ++ (codes " is not in the module, which has 0x" ++ (digits 16 false len ++ codes " bytes")))
 cause_text NoCode = codes "module has no code section"
+cause_text NoFunction = codes "no such function"
 cause_text (Output error) = codes "can't write the text: " ++ kind_name (error_kind error)
 
 -- A character of a name or a word is escaped in a message if it is a control character or a backslash.
@@ -65,6 +66,7 @@ long_name Indent = codes "--indent"
 long_name Color = codes "--color"
 long_name At = codes "--at"
 long_name CodeOffset = codes "--code-offset"
+long_name Func = codes "--func"
 
 -- The error of the command line, in words.
 abbrev pub misuse_text : ArgumentError → List ℕ

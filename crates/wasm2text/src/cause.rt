@@ -26,6 +26,8 @@ pub enum Cause {
     },
     /// The module has no code section.
     NoCode,
+    /// The module does not have the function.
+    NoFunction,
     /// The text can't be written.
     Output(io::Error),
 }
@@ -70,6 +72,7 @@ impl fmt::Display for Cause {
                 "byte 0x{offset:x} is not in the module, which has 0x{len:x} bytes"
             ),
             Cause::NoCode => f.write_str("module has no code section"),
+            Cause::NoFunction => f.write_str("no such function"),
             Cause::Output(error) => {
                 let name = kind_name(error.kind());
                 write!(f, "can't write the text: {name}")

@@ -1,14 +1,14 @@
 //! What is written for a module.
 
-use crate::target::Target;
+use crate::part::Part;
 
 /// What is written for a module.
 #[derive(Clone, Copy)]
-pub enum Form {
+pub enum Form<'a> {
     /// The text without ANSI escape sequences.
     Plain,
     /// The text with ANSI escape sequences.
     InColors,
-    /// The excerpt of the text that shows this byte.
-    Excerpt(Target),
+    /// A part of the text, without ANSI escape sequences.
+    Part(Part<'a>),
 }

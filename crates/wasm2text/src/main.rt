@@ -10,6 +10,11 @@ mod excerpt;
 #[cfg(test)]
 mod excerpt_tests;
 mod form;
+mod function_ref;
+mod function_search;
+mod function_text;
+#[cfg(test)]
+mod function_tests;
 mod help;
 mod line_search;
 mod messages;
@@ -20,6 +25,7 @@ mod output;
 #[cfg(test)]
 mod output_file_tests;
 mod parser;
+mod part;
 mod printing;
 mod program;
 #[cfg(test)]
@@ -28,6 +34,7 @@ mod request;
 mod status;
 mod system;
 mod target;
+mod text_options;
 
 use program::{BUFFER_LEN, run};
 use status::FAILED;

@@ -50,6 +50,8 @@ pub enum Setting {
     At,
     /// The offset of the byte that an excerpt of the text shows, from the start of the code section's contents.
     CodeOffset,
+    /// The function whose text is printed alone.
+    Func,
 }
 
 impl Setting {
@@ -63,6 +65,7 @@ impl Setting {
             "--color" => Some(Setting::Color),
             "--at" => Some(Setting::At),
             "--code-offset" => Some(Setting::CodeOffset),
+            "--func" => Some(Setting::Func),
             _ => None,
         }
     }
@@ -77,6 +80,7 @@ impl Setting {
             Setting::Color => "--color",
             Setting::At => "--at",
             Setting::CodeOffset => "--code-offset",
+            Setting::Func => "--func",
         }
     }
 }
@@ -100,6 +104,9 @@ pub fn joined(word: &str) -> Option<(Setting, &str)>
     }
     if let Some(value) = word.strip_prefix("--code-offset=") {
         return Some((Setting::CodeOffset, value));
+    }
+    if let Some(value) = word.strip_prefix("--func=") {
+        return Some((Setting::Func, value));
     }
     None
 }

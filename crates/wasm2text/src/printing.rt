@@ -1,17 +1,18 @@
 //! Printing files to a writer.
 ghost use Rattle.std.specs.Prelude.{◌≡◌, List, [], None, map, Result, Ok, Err, MatchResult};
 ghost use Rattle.wasm2text.specs.Messages.{Failure};
-ghost use Rattle.wasm2text.specs.Outcome.{Reads, between, Returns, writer, printing, series, choice, EndsAs, EndsBy, IsNoted, PrintsEach, Reports, write_failures, status_of};
+ghost use Rattle.wasm2text.specs.Parts.{part_view};
+ghost use Rattle.wasm2text.specs.Outcome.{Reads, between, Returns, Plain, InColors, PartForm, writer, printing, series, choice, style_choice, EndsAs, EndsBy, IsNoted, PrintsEach, Reports, write_failures, status_of};
 
 use crate::cause::{Cause, is_closed_pipe};
-use crate::excerpt::excerpt_of;
 use crate::form::Form;
 use crate::messages::{Messages, report};
 use crate::output::{Output, PrintOutput};
+use crate::part::{Part, text_of_part};
 use crate::request::STANDARD_INPUT;
 use crate::status::{FAILED, PRINTED};
 use crate::system::Inputs;
-use crate::target::Target;
+use crate::text_options::TextOptions;
 use std::alloc::Global;
 use std::io;
 use wasmprinter::{Config, Error};
@@ -20,9 +21,9 @@ use wasmprinter::{Config, Error};
 #[derive(Clone, Copy)]
 pub struct Style<'a> {
     /// The options of printing.
-    pub config: &'a Config,
+    pub options: TextOptions<'a>,
     /// What is written.
-    pub form: Form,
+    pub form: Form<'a>,
 }
 
 /// How printing a file ended.
@@ -47,7 +48,7 @@ pub fn print_files<I: Inputs, O: Output + Drop, E: Messages>(
     err: &mut E,
 ) -> (u8, O)
     ensures { (failures : List Failure)
-        × PrintsEach (series (Reads I.reads I.reads_input) (choice style.entry.config.now style.entry.form) (writer O.takes O.flushes O.uncreated))
+        × PrintsEach (series (Reads I.reads I.reads_input) (style_choice style.entry) (writer O.takes O.flushes O.uncreated))
         inputs.old out (map (λ f. f.now) files.now) failures inputs.new result.1
         × Reports E.sends err.old failures err.new × (result.0 ≡ status_of failures) }
 {
@@ -122,7 +123,7 @@ fn print_file<I: Inputs, O: Output>(
     file: &str,
     out: O,
 ) -> (Ended, O)
-    ensures { EndsAs (printing (between (Reads I.reads I.reads_input) inputs.old inputs.new) (choice style.entry.config.now style.entry.form)
+    ensures { EndsAs (printing (between (Reads I.reads I.reads_input) inputs.old inputs.new) (style_choice style.entry)
         (writer O.takes O.flushes O.uncreated)) out file.now result.0 result.1 }
 {
     match read(inputs, file) {
@@ -146,18 +147,18 @@ fn read<I: Inputs>(inputs: &mut I, file: &str) -> io::Result<Vec<u8>>
 
 /// Prints a module, and returns the writer.
 fn print_module<O: Output>(alloc: Global, style: Style<'_>, wasm: &[u8], out: O) -> (Ended, O)
-    ensures { EndsAs (printing (Returns wasm.now) (choice style.entry.config.now style.entry.form) (writer O.takes O.flushes O.uncreated)) out [] result.0 result.1 }
+    ensures { EndsAs (printing (Returns wasm.now) (style_choice style.entry) (writer O.takes O.flushes O.uncreated)) out [] result.0 result.1 }
 {
     match style.form {
-        Form::Plain => print_plain(alloc, style.config, wasm, out),
-        Form::InColors => print_colored(alloc, style.config, wasm, out),
-        Form::Excerpt(target) => print_excerpt(alloc, style.config, wasm, target, out),
+        Form::Plain => print_plain(alloc, style.options.config, wasm, out),
+        Form::InColors => print_colored(alloc, style.options.config, wasm, out),
+        Form::Part(part) => print_part(alloc, style.options, wasm, part, out),
     }
 }
 
 /// Prints a module without ANSI escape sequences, while its text is made. Returns the writer.
 fn print_plain<O: Output>(alloc: Global, config: &Config, wasm: &[u8], out: O) -> (Ended, O)
-    ensures { EndsAs (printing (Returns wasm.now) (choice config.now Form.Plain) (writer O.takes O.flushes O.uncreated)) out [] result.0 result.1 }
+    ensures { EndsAs (printing (Returns wasm.now) (choice config.now Plain) (writer O.takes O.flushes O.uncreated)) out [] result.0 result.1 }
 {
     let mut printer = PrintOutput(out);
     let printed = config.print(alloc, wasm, &mut printer);
@@ -166,7 +167,7 @@ fn print_plain<O: Output>(alloc: Global, config: &Config, wasm: &[u8], out: O) -
 
 /// Prints a module with ANSI escape sequences. The text is complete before it is written. Returns the writer.
 fn print_colored<O: Output>(alloc: Global, config: &Config, wasm: &[u8], out: O) -> (Ended, O)
-    ensures { EndsAs (printing (Returns wasm.now) (choice config.now Form.InColors) (writer O.takes O.flushes O.uncreated)) out [] result.0 result.1 }
+    ensures { EndsAs (printing (Returns wasm.now) (choice config.now InColors) (writer O.takes O.flushes O.uncreated)) out [] result.0 result.1 }
 {
     let mut out = out;
     match config.print_to_ansi(alloc, wasm) {
@@ -178,19 +179,18 @@ fn print_colored<O: Output>(alloc: Global, config: &Config, wasm: &[u8], out: O)
     }
 }
 
-/// Prints the excerpt of a module's text that shows a byte. The excerpt is complete before it is written. Returns the
-/// writer.
-fn print_excerpt<O: Output>(
+/// Prints a part of a module's text. The part is complete before it is written. Returns the writer.
+fn print_part<O: Output>(
     alloc: Global,
-    config: &Config,
+    options: TextOptions<'_>,
     wasm: &[u8],
-    target: Target,
+    part: Part<'_>,
     out: O,
 ) -> (Ended, O)
-    ensures { EndsAs (printing (Returns wasm.now) (choice config.now (Form.Excerpt target)) (writer O.takes O.flushes O.uncreated)) out [] result.0 result.1 }
+    ensures { EndsAs (printing (Returns wasm.now) (choice options.entry.config.now (PartForm (part_view part.entry))) (writer O.takes O.flushes O.uncreated)) out [] result.0 result.1 }
 {
     let mut out = out;
-    match excerpt_of(alloc, config, wasm, target) {
+    match text_of_part(alloc, options, wasm, part) {
         Ok(text) => match out.write_bytes(text.as_bytes()) {
             Ok(()) => finish(Ok(()), out),
             Err(error) => (Ended::Unwritten(error), out),

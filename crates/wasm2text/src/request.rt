@@ -1,12 +1,13 @@
 //! What the command line asks for.
-ghost use Rattle.std.specs.Prelude.{◌≡◌, IfOk, OnOk, is_none, option_copied};
+ghost use Rattle.std.specs.Prelude.{◌≡◌, IfOk, OnOk, is_none, option_copied, option_map};
 ghost use Rattle.wasm2text.specs.Arguments.{Flagged, WrittenTo, IndentedBy, Colored, Shows, File, request_of, with_input};
-ghost use Rattle.wasm2text.specs.Outcome.{is_colored, form_of};
+ghost use Rattle.wasm2text.specs.Outcome.{is_colored, form_view, form_of};
 ghost use Rattle.wasm2text.specs.Parsing.{request_read, options_read, Adds};
+ghost use Rattle.wasm2text.specs.Parts.{part_view};
 
 use crate::form::Form;
 use crate::options::{ColorChoice, Flag};
-use crate::target::Target;
+use crate::part::Part;
 use std::alloc::{AllocError, Global};
 use wasmprinter::Config;
 
@@ -37,8 +38,8 @@ pub struct Request<'a> {
     pub color: ColorChoice,
     /// The file to which the text is written, or `None` for standard output.
     pub output: Option<&'a str>,
-    /// The byte that the excerpt of each text shows, or `None` for whole texts.
-    pub at: Option<Target>,
+    /// The part of each text that is written, or `None` for whole texts.
+    pub part: Option<Part<'a>>,
     /// The files with modules, in order.
     pub files: Vec<&'a str>,
 }
@@ -60,7 +61,7 @@ impl<'a> Request<'a> {
             indent: None,
             color: ColorChoice::Auto,
             output: None,
-            at: None,
+            part: None,
             files: Vec::new(alloc),
         }
     }
@@ -100,11 +101,11 @@ impl<'a> Request<'a> {
         self.color = color;
     }
 
-    /// Sets the byte that the excerpt of each text shows.
-    pub fn show_byte(&mut self, target: Target)
-        ensures { Adds self.old (Shows target) self.new }
+    /// Sets the part of each text that is written.
+    pub fn show_part(&mut self, part: Part<'a>)
+        ensures { Adds self.old (Shows (part_view part.entry)) self.new }
     {
-        self.at = Some(target);
+        self.part = Some(part);
     }
 
     /// Adds a file.
@@ -142,12 +143,13 @@ impl<'a> Request<'a> {
         Ok(config)
     }
 
-    /// Returns what is written for each module, if standard output shows colors or does not. An excerpt has no colors.
-    pub fn form(&self, shows_colors: bool) -> Form
-        ensures { result ≡ form_of self.now.at (is_colored self.now.color (option_copied self.now.output) shows_colors) }
+    /// Returns what is written for each module, if standard output shows colors or does not. A part has no colors.
+    pub fn form(&self, shows_colors: bool) -> Form<'a>
+        ensures { form_view result
+            ≡ form_of (option_map part_view self.now.part) (is_colored self.now.color (option_copied self.now.output) shows_colors) }
     {
-        match self.at {
-            Some(target) => Form::Excerpt(target),
+        match self.part {
+            Some(part) => Form::Part(part),
             None if self.is_colored(shows_colors) => Form::InColors,
             None => Form::Plain,
         }

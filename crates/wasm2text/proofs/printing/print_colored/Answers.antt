@@ -1,8 +1,7 @@
 -- The text is written in one write, or the module is refused before.
 use Rattle.std.proofs.Common.{[], refl, inl}
 use Rattle.wasmprinter.proofs.TextOfFile.{component_error}
-use Rattle.wasm2text.specs.declared.form.Form.TheVariants.{InColors}
-use Rattle.wasm2text.specs.Outcome.{Returns, choice, printing, writer}
+use Rattle.wasm2text.specs.Outcome.{InColors, Returns, choice, printing, writer}
 use Rattle.wasm2text.proofs.Texts.{writes_once, fails_at_once, writes_nothing, ends_written}
 use Rattle.wasm2text.proofs.printing.print_colored.Goals as goal
 
