@@ -265,6 +265,24 @@ echo 'wasm2text: same.wasm: byte 0xffffffffffffffff is not in the module, which 
 case_of 1 --code-offset 0xffffffffffffffff same.wasm
 : >err
 
+# One function, without colors
+cat >out <<'END'
+  (func (;0;) (type 0) (param i32) (result i32)
+    local.get 0
+  )
+END
+case_of 0 --func 0 same.wasm
+case_of 0 --at=0 --color=always same.wasm --func=0x0
+cat >out <<'END'
+  (func $find (;0;) (type 0) (param $item i32) (result i32) ...)
+END
+# shellcheck disable=SC2016 # the argument starts with a dollar sign
+case_of 0 --skeleton --func '$find' find.wasm
+echo 'wasm2text: same.wasm: no such function' >err
+# shellcheck disable=SC2016 # the argument starts with a dollar sign
+case_of 1 --skeleton --func='$find' same.wasm find.wasm
+: >err
+
 # Output files. The first line of `out` starts what the file holds.
 { echo '-- new.wat:' && cat same.wat; } >out
 file_case 0 new.wat -o new.wat same.wasm
@@ -460,6 +478,7 @@ Options:
       --at OFFSET          Print only the lines around the byte at OFFSET
       --code-offset OFFSET
                            As --at, with OFFSET counted from the code section
+      --func FUNCTION      Print only the text of one function
   -o, --output FILE        Write to FILE instead of standard output
   -h, --help               Print this help
   -V, --version            Print the version
@@ -472,6 +491,10 @@ and after it are printed, and the header of its function, with their numbers in
 the whole text, without colors. OFFSET is a decimal number, or a hexadecimal one
 after 0x. It counts from the start of each module or, with --code-offset, of the
 contents of its code section, as in DWARF.
+
+With --func, the lines of one function are printed as they are in the whole
+text, without colors. FUNCTION is its index, as OFFSET is written, and imported
+functions are counted; or $ and the rest of its identifier, as '$find'.
 
 Exit status:
   0  all files were printed, or the reader of the text closed the pipe

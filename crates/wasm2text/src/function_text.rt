@@ -30,9 +30,7 @@ pub fn text_of_function(
     ensures refused { IfErr result (IsFunctionRefusal options.entry.config.now wasm.now (function_view function.entry)) }
 {
     let mut storage = String::new(alloc);
-    let lines = options
-        .config
-        .offsets_and_lines(alloc, wasm, &mut storage)?;
+    let lines = options.config.offsets_and_lines(alloc, wasm, &mut storage)?;
     match range_in_module(alloc, wasm, options.synthesizes, function)? {
         Some(range) => Ok(text_of_range(alloc, lines, range)?),
         None => Err(Cause::NoFunction),

@@ -17,6 +17,7 @@ Options:
       --at OFFSET          Print only the lines around the byte at OFFSET
       --code-offset OFFSET
                            As --at, with OFFSET counted from the code section
+      --func FUNCTION      Print only the text of one function
   -o, --output FILE        Write to FILE instead of standard output
   -h, --help               Print this help
   -V, --version            Print the version
@@ -29,6 +30,10 @@ and after it are printed, and the header of its function, with their numbers in
 the whole text, without colors. OFFSET is a decimal number, or a hexadecimal one
 after 0x. It counts from the start of each module or, with --code-offset, of the
 contents of its code section, as in DWARF.
+
+With --func, the lines of one function are printed as they are in the whole
+text, without colors. FUNCTION is its index, as OFFSET is written, and imported
+functions are counted; or $ and the rest of its identifier, as '$find'.
 
 Exit status:
   0  all files were printed, or the reader of the text closed the pipe

@@ -12,9 +12,9 @@ mod excerpt_tests;
 mod form;
 mod function_ref;
 mod function_search;
-mod function_text;
 #[cfg(test)]
 mod function_tests;
+mod function_text;
 mod help;
 mod line_search;
 mod messages;

@@ -104,7 +104,9 @@ impl<'a> Parser<'a> {
                 None => return Err(invalid),
             },
             Setting::CodeOffset => match read_offset(value) {
-                Some(offset) => self.request.show_part(Part::Excerpt(Target::CodeByte(offset))),
+                Some(offset) => self
+                    .request
+                    .show_part(Part::Excerpt(Target::CodeByte(offset))),
                 None => return Err(invalid),
             },
             Setting::Func => match FunctionRef::named(value) {

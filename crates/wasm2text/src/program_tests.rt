@@ -2,6 +2,7 @@
 ghost use Rattle.std.specs.Prelude.{⊤};
 
 use crate::excerpt_tests::{HINT, LONG};
+use crate::function_tests::NAMED;
 use crate::help::HELP;
 use crate::output::Output;
 use crate::program::run;
@@ -45,6 +46,7 @@ impl Inputs for Memory {
             "late.wasm" => LATE,
             "long.wasm" => LONG,
             "hint.wasm" => HINT,
+            "named.wasm" => NAMED,
             "locked.wasm" => return Err(io::Error::from(ErrorKind::PermissionDenied)),
             "folder" => return Err(io::Error::from(ErrorKind::IsADirectory)),
             _ => return Err(io::Error::from(ErrorKind::NotFound)),
@@ -417,6 +419,7 @@ const NAMES: &[&str] = &[
     " --color WHEN ",
     " --at OFFSET ",
     " --code-offset OFFSET\n",
+    " --func FUNCTION ",
     "-o, --output FILE ",
     "-h, --help ",
     "-V, --version ",
