@@ -8,6 +8,7 @@ use Rattle.wasmprinter_spec.specs.Placed.{PlacedModule}
 use Rattle.wasmprinter.specs.Lined.{HasLinesBy}
 use Rattle.wasmprinter.proofs.Named.{same_module}
 use Rattle.wasm2text.specs.declared.function_search.PlaceRange.{PlaceRange}
+use Rattle.wasm2text.proofs.FunctionShown.{function_has_line}
 use Rattle.wasm2text.specs.FunctionText.{Function, HasRange, IsTextOfRange, IsFunctionTextOf, HaveNoFunction}
 
 -- The text of the function's lines is the text of the function.
@@ -16,14 +17,16 @@ pub text_of_lines : (o : Options) (wasm old storage : List ℕ) (lines : List Te
     IsTextOfRange lines range text → IsFunctionTextOf o wasm function text
 text_of_lines o wasm old storage lines b m function range text e has named spells is shown =
     let given : HasLinesBy o wasm [] storage lines = subst (λ (t : List ℕ). HasLinesBy o wasm t storage lines) e has in
+    let own : HasRange o.synthesizes given.printed.decoded.placed function range =
+    subst (λ (p : PlacedModule). HasRange o.synthesizes p function range) (sym (same_module given.printed.decoded m spells))
+    (subst (λ (x : Bool). HasRange x m function range) (sym named) is) in
     record {
       whole = storage;
       lines = lines;
       given = given;
       range = range;
-      has =
-          subst (λ (p : PlacedModule). HasRange o.synthesizes p function range) (sym (same_module given.printed.decoded m spells))
-          (subst (λ (x : Bool). HasRange x m function range) (sym named) is);
+      has = own;
+      some = function_has_line o wasm [] storage lines range own.0 given own.2;
       is = shown;
     }
 

@@ -14,5 +14,6 @@ pub mod CodeOfModules
 pub mod Excerpts
 pub mod FunctionLines
 pub mod FunctionPlaces
+pub mod FunctionShown
 pub mod FunctionTexts
 pub mod Parts

@@ -119,6 +119,8 @@ pub record IsFunctionTextOf (o : Options) (wasm : List ℕ) (function : Function
   -- The places of the function.
   pub range : PlaceRange
   pub has : HasRange o.synthesizes given.printed.decoded.placed function range
+  -- At least one line has one of these places.
+  pub some : any_in range lines ≡ true
   pub is : IsTextOfRange lines range text
 
 -- The bytes encode a module that can be printed with these options, and does not have the function.
