@@ -22,15 +22,9 @@ use Rattle.wasmprinter.specs.Lined.{HasLinesBy}
 use Rattle.wasmprinter.specs.Printed.{no_claims}
 use Rattle.wasmprinter.specs.TextOfFile.{AreRefused}
 use Rattle.wasmprinter.proofs.Named.{same_module}
-use Rattle.wasm2text.specs.declared.cause.Cause.{Cause}
-use Rattle.wasm2text.specs.declared.cause.Cause.TheVariants.{System as Unread, Module, NoByte, NoCode, Output}
-use Rattle.wasm2text.specs.declared.form.Form.TheVariants.{Excerpt}
-use Rattle.wasm2text.specs.declared.printing.Ended.TheVariants.{Refused}
 use Rattle.wasm2text.specs.declared.target.Target.{Target}
-use Rattle.wasm2text.specs.Excerpt.{StartsAtZero, ShowsByte, IsHeader, IsExcerptIn, IsExcerptOfLines, IsExcerptOf, IsExcerptRefusal, IsTargetAt, HasOffset, saturated, excerpt_text}
-use Rattle.wasm2text.specs.Outcome.{Writer, Returns, printing, choice, EndsAs}
+use Rattle.wasm2text.specs.Excerpt.{StartsAtZero, ShowsByte, IsHeader, IsExcerptIn, IsExcerptOfLines, IsExcerptOf, IsTargetAt, HasOffset, saturated, excerpt_text}
 use Rattle.wasm2text.proofs.Headers.{line_within}
-use Rattle.wasm2text.proofs.Texts.{writes_nothing}
 
 -- The first line of a module has the place 0.
 first_place : (o : Options) (names : Names) (size : ℕ) (ps : List Piece) (r : Option ℕ) →
