@@ -1,5 +1,6 @@
 //! The excerpt of a module's text that shows a byte of the module.
 ghost use Rattle.std.specs.Prelude.{◌≡◌, ◌+◌, ◌<◌, ◌^◌, ◌++◌, length, decimal, string_bytes, IfOk, IfErr, IfSome, OnOk};
+ghost use Rattle.wasmprinter_spec.specs.Binary.{Spells};
 ghost use Rattle.wasmprinter.specs.Found.{text_lines};
 ghost use Rattle.wasm2text.specs.Excerpt.{StartsAtZero, IsExcerptOfLines, IsExcerptOf, IsExcerptRefusal, excerpt_text, window_around, is_outside, header_before, excerpt_line, excerpt_lines, mark, padded_number};
 
@@ -7,7 +8,7 @@ use crate::cause::Cause;
 use crate::line_search::{header_of_byte, line_of_byte};
 use crate::request::SPACE;
 use std::alloc::{AllocError, Global};
-use wasmprinter::wasm::decode;
+use wasmprinter::wasm::{Module, decode};
 use wasmprinter::{Config, OffsetsAndLines};
 
 /// The greatest number of lines before the line that shows the byte, and after it.
@@ -42,12 +43,22 @@ fn excerpt_of_lines(
     requires { StartsAtZero lines.lines }
     ensures { IfOk result (λ text. IsExcerptOfLines wasm.now lines.entry.lines offset (string_bytes text)) }
 {
-    // The bytes encode a module, so that only an allocation can fail.
-    let module = decode(alloc, wasm).map_err(|_| AllocError)?;
+    let module = decoded(alloc, wasm)?;
     let lines: Vec<(Option<u64>, &str)> = lines.collect(alloc)?;
     let shown = line_of_byte(&lines, offset);
     let header = header_of_byte(&module, &lines, offset);
     excerpt_around(alloc, &lines, shown, header)
+}
+
+/// Returns the module that these bytes encode. Every error is returned as `AllocError`: the text of the module was
+/// printed before, so that only an allocation can fail.
+fn decoded(alloc: Global, wasm: &[u8]) -> Result<Module<'_>, AllocError>
+    ensures { IfOk result (λ m. Spells wasm.now m) }
+{
+    match decode(alloc, wasm) {
+        Ok(module) => Ok(module),
+        Err(_) => Err(AllocError),
+    }
 }
 
 /// How the lines of an excerpt are numbered.
