@@ -4,11 +4,11 @@ ghost use Rattle.wasmprinter.specs.Found.{text_lines};
 ghost use Rattle.wasm2text.specs.Excerpt.{StartsAtZero, IsExcerptOfLines, IsExcerptOf, IsExcerptRefusal, excerpt_text, window_around, is_outside, header_before, excerpt_line, excerpt_lines, mark, padded_number};
 
 use crate::cause::Cause;
+use crate::decoded::decoded;
 use crate::line_search::{header_of_byte, line_of_byte};
 use crate::request::SPACE;
 use crate::target::Target;
 use std::alloc::{AllocError, Global};
-use wasmprinter::wasm::decode;
 use wasmprinter::{Config, OffsetsAndLines};
 
 /// The greatest number of lines before the line that shows the byte, and after it.
@@ -52,8 +52,7 @@ fn excerpt_of_lines(
     requires { StartsAtZero lines.lines }
     ensures { IfOk result (λ text. IsExcerptOfLines wasm.now lines.entry.lines offset (string_bytes text)) }
 {
-    // The bytes encode a module, so that only an allocation can fail.
-    let module = decode(alloc, wasm).map_err(|_| AllocError)?;
+    let module = decoded(alloc, wasm)?;
     let lines: Vec<(Option<u64>, &str)> = lines.collect(alloc)?;
     let shown = line_of_byte(&lines, offset);
     let header = header_of_byte(&module, &lines, offset);

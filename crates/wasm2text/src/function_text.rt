@@ -7,12 +7,12 @@ ghost use Rattle.wasmprinter.specs.Found.{text_lines};
 ghost use Rattle.wasm2text.specs.FunctionText.{function_view, HasRange, StartsAt, EndsAt, IsTextOfRange, IsFunctionTextOf, IsFunctionRefusal};
 
 use crate::cause::Cause;
+use crate::decoded::decoded;
 use crate::function_ref::FunctionRef;
 use crate::function_search::{PlaceRange, range_of_function};
 use crate::text_options::TextOptions;
 use std::alloc::{AllocError, Global};
 use wasmprinter::OffsetsAndLines;
-use wasmprinter::wasm::decode;
 
 /// Returns the text of a function, which is a part of the text of the module with these options.
 ///
@@ -48,8 +48,7 @@ fn range_in_module(
     ensures { IfOk result (λ found. (m : PlacedModule) × Spells wasm.now m
         × MatchOption found ((range : PlaceRange) → HasRange synthesizes m (function_view function.entry) range → ⊥) (HasRange synthesizes m (function_view function.entry))) }
 {
-    // The bytes encode a module, so that only an allocation can fail.
-    let module = decode(alloc, wasm).map_err(|_| AllocError)?;
+    let module = decoded(alloc, wasm)?;
     range_of_function(alloc, &module, synthesizes, function)
 }
 

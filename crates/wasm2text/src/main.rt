@@ -5,6 +5,7 @@
 mod call_tests;
 mod cause;
 mod code_section;
+mod decoded;
 mod escaped;
 mod excerpt;
 #[cfg(test)]

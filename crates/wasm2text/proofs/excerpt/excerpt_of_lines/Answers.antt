@@ -1,10 +1,8 @@
 -- The lines are all lines of the iterator, and the header is one of them.
 use Rattle.std.specs.Prelude.{◌≡◌, ◌<◌, ℕ, Ok, IfSome, length}
-use Rattle.std.proofs.Common.{rules, string_bytes, refl, sym, ◌∙◌, subst}
+use Rattle.std.proofs.Common.{string_bytes, refl, sym, ◌∙◌, subst}
 use Rattle.std.proofs.lemmas.Iterator.Consumers.{map_from_collect, YieldsList-from_first}
 use Rattle.std.proofs.lemmas.Result.{IfOk-weaker}
-use Rattle.wasmprinter_spec.specs.Binary.{Spells}
-use Rattle.wasmprinter_spec.specs.Limits.{IsWithinLimits}
 use Rattle.wasmprinter_spec.specs.Lines.{line_places}
 use Rattle.wasmprinter.specs.Found.{text_lines}
 use Rattle.wasm2text.specs.Excerpt.{ShowsByte, IsHeader}
@@ -20,7 +18,6 @@ pub returns : goal.returns
 returns c =
     let m = c.in_ok-module.module in
     let lines = c.in_ok-lines.lines.items in
-    let decoded : Spells c.args.wasm.now m × IsWithinLimits m = search rules in
     let all : text_lines lines ≡ c.args.lines.lines =
     map_from_collect {E = ℕ} (Ok c.in_ok-lines.lines) c.in_ok-lines.ensures.ran
     (YieldsList-from_first (λ line. (line.0, line.1.now)) (λ it. it.lines) c.args.lines.lines refl) in
@@ -28,5 +25,5 @@ returns c =
     let is_header : IsHeader m (text_lines lines) c.args.offset c.header_of_byte-header.result = rw c.deref-2.ensures.value at c.header_of_byte-header.ensures in
     IfOk-weaker c.excerpt_around.result _ _
     (λ text is. excerpt_of_collected c.args.wasm.now m lines c.args.lines.lines c.args.offset c.line_of_byte-shown.result c.header_of_byte-header.result
-    (string_bytes text) decoded.0 all shows is_header is)
+    (string_bytes text) c.in_ok-module.ensures all shows is_header is)
     (rw c.deref-3.ensures.value at c.excerpt_around.ensures)
