@@ -1,9 +1,9 @@
 -- The lines of a function, among the lines of a text.
-use Rattle.std.specs.Prelude.{◌≡◌, ℕ, ◌+◌, ◌-◌, ◌<◌, ◌≤◌, List, [], ◌∷◌, ◌++◌, Bool, true, false, ◌||◌, Option, Some, None, IfSome, map, length, slice_get, slice_range, flat_map}
+use Rattle.std.specs.Prelude.{◌≡◌, ℕ, ◌+◌, ◌-◌, ◌<◌, ◌≤◌, List, [], ◌∷◌, ◌++◌, Bool, true, false, ◌||◌, Option, IfSome, length, slice_get, slice_range}
 use Rattle.std.specs.Borrow.{Bor}
 use Rattle.std.specs.Option.{option_map}
 use Rattle.std.proofs.Common.{refl, sym, ap, ◌∙◌, subst, zero, suc, take, drop, get_or, arith, inl, inr, append_assoc, append-nil}
-use Rattle.std.proofs.lemmas.List.{drop_all, drop_more, drop-map, at_drop_more, get_or-map, length-map, length-drop, length-take-le, take-append-drop, take_all}
+use Rattle.std.proofs.lemmas.List.{drop_all, at_drop_more, get_or-map, length-map, length-drop, length-take-le, take-append-drop, take_all}
 use Rattle.std.proofs.Math.Seq.{drop-nil}
 use Rattle.std.proofs.lemmas.Bool.{cases_lt}
 use Rattle.std.proofs.lemmas.List.Folds.{list_any_more}

@@ -2,11 +2,10 @@
 use Rattle.std.specs.Prelude.{◌≡◌, ℕ, ◌+◌, ◌<◌, ◌≤◌, List, [], ◌∷◌, ◌++◌, Bool, Option, Some, None, map, drop, length, slice_get}
 use Rattle.std.specs.List.{filter_map, cons_option}
 use Rattle.std.specs.Option.{option_map}
-use Rattle.std.proofs.Common.{refl, sym, ap, ◌∙◌, subst, zero, suc, get_or, arith}
+use Rattle.std.proofs.Common.{refl, sym, ap, ◌∙◌, zero, suc, get_or, arith}
 use Rattle.std.proofs.lemmas.List.{drop_all, at_drop_more, length-map, length-append}
 use Rattle.wasmprinter_spec.specs.Grammar.{Placed}
-use Rattle.wasmprinter_spec.specs.Types.{ExternKind, FuncKind, TableKind, MemoryKind, GlobalKind, TagKind, ExternType, FuncExtern, TableExtern, MemoryExtern, GlobalExtern, TagExtern}
-use Rattle.wasmprinter_spec.specs.Labels.{Named}
+use Rattle.wasmprinter_spec.specs.Types.{FuncKind, TableKind, MemoryKind, GlobalKind, TagKind, ExternType, FuncExtern, TableExtern, MemoryExtern, GlobalExtern, TagExtern}
 use Rattle.wasmprinter_spec.specs.ModuleNames.{module_names, name_entries}
 use Rattle.wasmprinter_spec.specs.Names.{name_in, or_synthesized}
 use Rattle.wasmprinter_spec.specs.Names.Content.{group_of, name_of}
@@ -15,7 +14,7 @@ use Rattle.wasmprinter_spec.specs.Placed.{Body, Import, PlacedFunction, PlacedMo
 use Rattle.wasmprinter_spec.specs.Row.{Func}
 use Rattle.wasmprinter_custom.specs.Views.{NamedItem, name_at}
 use Rattle.wasmprinter_decoder.specs.Externs.{kind_of_type, imported_count}
-use Rattle.wasmprinter_decoder.specs.Modules.{bodies_of, body_at}
+use Rattle.wasmprinter_decoder.specs.Modules.{body_at}
 use Rattle.wasm2text.specs.declared.function_search.PlaceRange.{PlaceRange}
 use Rattle.wasm2text.specs.FunctionText.{only_place, import_range, body_range, function_ranges}
 

@@ -1,6 +1,6 @@
 -- Each function of a module has a line in the module's text.
 use Rattle.std.specs.Prelude.{◌≡◌, ◌⊎◌, ℕ, ◌+◌, ◌≤◌, List, [], ◌∷◌, ◌++◌, Bool, true, false, ◌||◌, Option, Some, None, map, length, slice_get, nat_le}
-use Rattle.std.specs.List.{filter_map, cons_option, flat_map, list_any}
+use Rattle.std.specs.List.{filter_map, flat_map, list_any}
 use Rattle.std.proofs.Common.{refl, sym, ap, ◌∙◌, subst, zero, suc, arith, inl, inr}
 use Rattle.std.proofs.lemmas.Bool.{and_from, le-leb}
 use Rattle.std.proofs.lemmas.List.Concat.{flat_map-append}
@@ -15,7 +15,7 @@ use Rattle.wasmprinter_spec.specs.Binary.{Spells}
 use Rattle.wasmprinter_spec.specs.Options.{Options, Answers, with_color}
 use Rattle.wasmprinter_spec.specs.Placed.{Import, PlacedFunction, PlacedModule}
 use Rattle.wasmprinter_spec.specs.Layout.{layout, module_pieces, module_parts, parts_by, section_pieces, section_parts, section_order, refusal, early_scope}
-use Rattle.wasmprinter_spec.specs.Layout.Customs.{Part, parts_at}
+use Rattle.wasmprinter_spec.specs.Layout.Customs.{parts_at}
 use Rattle.wasmprinter_spec.specs.Piece.{Piece}
 use Rattle.wasmprinter_spec.specs.Layout.Declarations.{Scope, scope_of_function}
 use Rattle.wasmprinter_spec.specs.Layout.Functions.{function_group, function_pieces, functions_pieces}

@@ -1,6 +1,6 @@
 -- The text of a function of a module.
 use Rattle.std.specs.Prelude.{◌≡◌, ℕ, List, [], Bool}
-use Rattle.std.proofs.Common.{refl, sym, ap, ◌∙◌, subst}
+use Rattle.std.proofs.Common.{sym, subst}
 use Rattle.wasmprinter_spec.specs.Binary.{Spells}
 use Rattle.wasmprinter_spec.specs.Lines.{TextLine}
 use Rattle.wasmprinter_spec.specs.Options.{Options}

@@ -1,11 +1,11 @@
 -- The header of the function to whose body a byte belongs.
-use Rattle.std.specs.Prelude.{◌≡◌, ℕ, ◌+◌, ◌<◌, ◌≤◌, List, [], ◌∷◌, Option, Some, None, Bool, true, false, cond, map, length, slice_get}
-use Rattle.std.proofs.Common.{refl, sym, ap, ◌∙◌, subst, zero, suc, arith, inl, inr}
+use Rattle.std.specs.Prelude.{◌≡◌, ℕ, ◌+◌, ◌<◌, ◌≤◌, List, [], ◌∷◌, Option, Some, None, Bool, true, false, cond, length, slice_get}
+use Rattle.std.proofs.Common.{refl, sym, ap, ◌∙◌, subst, zero, suc, arith, inr}
 use Rattle.std.proofs.lemmas.Option.{slice_get_within}
 use Rattle.wasmprinter_spec.specs.Grammar.{Placed}
 use Rattle.wasmprinter_spec.specs.Placed.{Body, PlacedFunction, PlacedModule}
 use Rattle.wasmprinter_spec.specs.Lines.{TextLine, has_place, line_from}
-use Rattle.wasmprinter_decoder.specs.Modules.{bodies_of, body_at}
+use Rattle.wasmprinter_decoder.specs.Modules.{body_at}
 use Rattle.wasm2text.specs.Excerpt.{IsInBody, IsPlaceOfBody, IsOutside, IsHeader}
 
 -- The function that has the body with this number.

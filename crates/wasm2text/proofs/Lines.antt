@@ -1,6 +1,6 @@
 -- Each message is one line.
-use Rattle.std.specs.Prelude.{◌≡◌, ℕ, ◌+◌, ◌/◌, ◌%◌, ◌<◌, ◌≤◌, zero, suc, List, [], ◌∷◌, ◌++◌, map, flat_map, chars, encode_utf8_all, Bool, true, false, cond, ◌&&◌, ◌==◌, nat_lt, nat_le, codes, decimal, if◌then◌else◌}
-use Rattle.std.specs.Char.{is_control, digit_char}
+use Rattle.std.specs.Prelude.{◌≡◌, ℕ, ◌+◌, ◌/◌, ◌%◌, ◌<◌, ◌≤◌, zero, suc, List, [], ◌∷◌, ◌++◌, map, flat_map, chars, encode_utf8_all, Bool, true, false, cond, ◌==◌, nat_lt, nat_le, codes, decimal, if◌then◌else◌}
+use Rattle.std.specs.Char.{is_control}
 use Rattle.std.specs.Char.Escape.{short_escape, hex_digit_at, escape_unicode, escape_default}
 use Rattle.std.specs.Fmt.{digit_glyph, digits_onto, digits}
 use Rattle.std.specs.Int.{is_in_range}

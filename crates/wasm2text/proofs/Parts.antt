@@ -1,5 +1,5 @@
 -- How printing ends if the module's text has no such part.
-use Rattle.std.specs.Prelude.{◌≡◌, ℕ, List, []}
+use Rattle.std.specs.Prelude.{ℕ, List, []}
 use Rattle.std.proofs.Common.{refl, ap, inl}
 use Rattle.wasmprinter_spec.specs.Options.{Options}
 use Rattle.wasm2text.specs.declared.cause.Cause.{Cause}

@@ -1,5 +1,5 @@
 -- How printing a file ends, by how printing its module ended.
-use Rattle.std.specs.Prelude.{◌≡◌, ◌↔◌, ℕ, ◌⊎◌, List, [], ◌∷◌, ◌++◌, Bool, true, false, None, Result, Ok, Err, OnOk, IfErr, IsErrOf, MatchResult}
+use Rattle.std.specs.Prelude.{◌≡◌, ◌↔◌, ℕ, ◌⊎◌, List, [], ◌∷◌, ◌++◌, true, false, Result, Ok, Err, OnOk, IfErr, IsErrOf, MatchResult}
 use Rattle.std.specs.List.{concat}
 use Rattle.std.specs.declared.io.Error.{Error as IoError}
 use Rattle.std.proofs.Common.{refl, sym, ap, ◌∙◌, subst, append-nil, inl, inr}
@@ -14,10 +14,9 @@ use Rattle.wasmprinter_spec.proofs.Texts.{alike_texts}
 use Rattle.wasmprinter_print.specs.MadeCalls.{Broken, Interrupted}
 use Rattle.wasmprinter_print.specs.TextOnly.{Writes, WritesTextOnly, text_only}
 use Rattle.wasmprinter_print.proofs.TextRuns.{takes_none}
-use Rattle.wasmprinter_writers.specs.Writing.{Writing, WritesEach}
+use Rattle.wasmprinter_writers.specs.Writing.{WritesEach}
 use Rattle.wasmprinter_print.specs.Change.{change}
 use Rattle.wasmprinter.specs.Printed.{Printed, IsTextOf, no_claims}
-use Rattle.wasmprinter.specs.Colored.{HasColoredTextBy}
 use Rattle.wasmprinter.specs.Outcome.{IsPrintRefusal, IsTextRefusal, Leaves, WhilePrinting, MadeUpTo, without_printer}
 use Rattle.wasmprinter.specs.Prefix.{PutsPrefix}
 use Rattle.wasmprinter.specs.TextOfFile.{AreRefused}

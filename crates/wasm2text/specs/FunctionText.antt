@@ -1,7 +1,6 @@
 -- The text of one function: the lines of the module's text from the first to the last that belong to the function.
-use Rattle.std.specs.Prelude.{◌≡◌, ℕ, ◌+◌, ◌-◌, ◌<◌, ◌≤◌, List, [], ◌++◌, map, take, drop, Bool, true, false, nat_le, ◌&&◌, Option, Some, None, IfSome, option_map, slice_get, length}
+use Rattle.std.specs.Prelude.{◌≡◌, ℕ, ◌-◌, ◌<◌, ◌≤◌, List, [], ◌++◌, map, take, drop, Bool, true, false, nat_le, ◌&&◌, Option, Some, None, IfSome, option_map, slice_get, length}
 use Rattle.std.specs.List.{filter_map, list_any}
-use Rattle.wasmprinter_bytes.specs.declared.library_error.Error.{Error}
 use Rattle.wasmprinter_spec.specs.Grammar.{Placed}
 use Rattle.wasmprinter_spec.specs.Labels.{Named}
 use Rattle.wasmprinter_spec.specs.Lines.{TextLine, joined_lines}

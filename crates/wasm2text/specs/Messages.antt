@@ -5,7 +5,6 @@ use Rattle.std.specs.Char.Escape.{backslash, escape_default}
 use Rattle.std.specs.Str.{NoCharPasses}
 use Rattle.std.specs.Fmt.{digits}
 use Rattle.std.specs.IoError.{error_kind}
-use Rattle.std.specs.declared.io.Error.{Error as IoError}
 use Rattle.std.specs.declared.io.ErrorKind.{ErrorKind}
 use Rattle.std.specs.declared.io.ErrorKind.TheVariants.{NotFound, PermissionDenied, IsADirectory, NotADirectory, InvalidFilename, FilesystemLoop, ReadOnlyFilesystem, StorageFull, QuotaExceeded, FileTooLarge, BrokenPipe, OutOfMemory}
 use Rattle.wasmprinter_bytes.specs.Messages.{error_text}

@@ -1,5 +1,5 @@
 -- The outcome of a run: what is printed and written, which failures are reported, and the exit status.
-use Rattle.std.specs.Prelude.{◌≡◌, ◌≢◌, ℕ, ◌⊎◌, List, [], ◌∷◌, ◌++◌, Bool, true, false, ◌&&◌, not, codes, Option, Some, None, is_none, Result, Ok, Err, cond, if◌then◌else◌}
+use Rattle.std.specs.Prelude.{◌≡◌, ◌≢◌, ℕ, ◌⊎◌, List, [], ◌∷◌, Bool, true, false, ◌&&◌, codes, Option, Some, None, is_none, Result, Ok, Err, cond, if◌then◌else◌}
 use Rattle.std.specs.List.{concat}
 use Rattle.std.specs.IoError.{error_kind}
 use Rattle.std.specs.declared.io.Error.{Error as IoError}

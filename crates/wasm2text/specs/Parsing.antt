@@ -1,5 +1,5 @@
 -- The state between two words of the command line, and the request that the words so far make.
-use Rattle.std.specs.Prelude.{◌≡◌, ℕ, List, [], ◌∷◌, ◌++◌, map, codes, Option, Some, Result, MatchResult, option_copied, option_map}
+use Rattle.std.specs.Prelude.{◌≡◌, ℕ, List, [], ◌∷◌, ◌++◌, map, codes, Some, Result, MatchResult, option_copied, option_map}
 use Rattle.wasmprinter_spec.specs.Options.{Options, defaults}
 use Rattle.wasm2text.specs.Arguments.{Argument, File, AreArguments, setting_named, IsArgumentError, indent_text, Request, request_of}
 use Rattle.wasm2text.specs.Parts.{part_view}

@@ -1,5 +1,5 @@
 -- Each line is added to the lines before it.
-use Rattle.std.proofs.Common.{◌≤◌, length, map, arith}
+use Rattle.std.proofs.Common.{◌≤◌, length, arith}
 use Rattle.std.proofs.lemmas.List.{length-map}
 use Rattle.wasmprinter_spec.specs.Lines.{line_places}
 use Rattle.wasmprinter.specs.Found.{text_lines}

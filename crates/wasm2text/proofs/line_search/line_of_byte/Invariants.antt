@@ -1,5 +1,4 @@
 -- The line found so far shows the byte among the lines so far.
-use Rattle.std.proofs.Common.{map}
 use Rattle.wasmprinter_spec.specs.Lines.{line_places}
 use Rattle.wasmprinter.specs.Found.{text_lines}
 use Rattle.wasm2text.proofs.ShownLines.{NearestBelow}

@@ -1,5 +1,4 @@
 -- The bytes of the file are those of the module.
-use Rattle.std.proofs.Common.{[], refl}
 use Rattle.wasm2text.specs.Outcome.{Reads, between, style_choice, writer}
 use Rattle.wasm2text.proofs.Texts.{ends_from}
 use Rattle.wasm2text.proofs.printing.print_file.Goals as goal

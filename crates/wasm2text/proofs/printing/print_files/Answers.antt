@@ -1,5 +1,5 @@
 -- Each file ends in its own way. The failures are reported in the order of the files.
-use Rattle.std.proofs.Common.{◌≡◌, ℕ, List, ◌++◌, map, max, sym, ap₂, ◌∙◌, subst, append_assoc, append-nil}
+use Rattle.std.proofs.Common.{ℕ, List, ◌++◌, map, max, sym, ap₂, ◌∙◌, subst, append_assoc, append-nil}
 use denote.Ref.{Bor}
 use Rattle.wasm2text.specs.Outcome.{Reads, series, style_choice, writer, PrintsEach}
 use Rattle.wasm2text.proofs.Files.{reports_both, status_both, next_file, last_file, all_files}
