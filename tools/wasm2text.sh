@@ -64,7 +64,7 @@ git_case() {
 }
 
 # The modules: the empty one, the identity function, one that lacks its last byte, one whose `dylink.0` section has subsection 9, a component,
-# one with an unknown section, one with a legacy `try`, and one whose custom section `z` has 2097150 zeros
+# one with an unknown section, one with a legacy `try`, one whose custom section `z` has 2097150 zeros, and the README's example
 printf '\000asm\001\000\000\000' >empty.wasm
 printf '\000asm\001\000\000\000\001\006\001\140\001\177\001\177\003\002\001\000\007\005\001\001f\000\000\012\006\001\004\000\040\000\013' \
     >same.wasm
@@ -74,6 +74,8 @@ printf '\000asm\015\000\001\000' >component.wasm
 printf '\000asm\001\000\000\000\016\000' >unknown.wasm
 printf '\000asm\001\000\000\000\001\004\001\140\000\000\003\002\001\000\012\010\001\006\000\006\100\031\013\013' >legacy.wasm
 printf '\000asm\001\000\000\000\000\200\200\200\001\001z' | cat - /dev/zero | head -c 2097165 >big.wasm
+printf '\0asm\1\0\0\0\1\6\1`\1\177\1\177\2\17\1\3env\6memory\2\0\1\3\2\1\0\7\10\1\4find\0\0\12\34\1\32\0\2@\3@ \0(\2\0\15\1 \0(\2\4"\0\15\0\13\13 \0\13\0+\4name\1\7\1\0\4find\2\11\1\0\1\0\4item\3\20\1\0\2\0\5found\1\4next' \
+    >find.wasm
 
 # The texts
 echo '(module)' >empty.wat
@@ -229,6 +231,57 @@ colored >out <<'END'
 END
 case_of 0 -p --skeleton --name-unnamed -f --indent 1 --color always same.wasm
 case_of 0 same.wasm --color=always --indent=1 --fold-instructions --name-unnamed --skeleton --print-offsets
+
+# Excerpts, without colors
+cat >out <<'END'
+   5   (func $find (;0;) (type 0) (param $item i32) (result i32)
+   9         i32.load
+  10         br_if $found
+  11         local.get $item
+> 12         i32.load offset=4
+  13         local.tee $item
+  14         br_if $next
+  15       end
+END
+case_of 0 --at 0x41 find.wasm
+case_of 0 find.wasm --at=67
+case_of 0 --color=always --at 0x41 find.wasm
+input_case 0 find.wasm --at 0x42
+case_of 0 --code-offset 0x10 find.wasm
+case_of 0 --at 0 find.wasm --code-offset=16
+cat >out <<'END'
+  3   (export "f" (func 0))
+  4   (func (;0;) (type 0) (param i32) (result i32)
+  5     local.get 0
+> 6   )
+  7 )
+END
+echo 'wasm2text: empty.wasm: byte 0x22 is not in the module, which has 0x8 bytes' >err
+case_of 1 --at 34 empty.wasm same.wasm
+echo 'wasm2text: empty.wasm: module has no code section' >err
+case_of 1 --code-offset 5 empty.wasm same.wasm
+: >out
+echo 'wasm2text: same.wasm: byte 0xffffffffffffffff is not in the module, which has 0x23 bytes' >err
+case_of 1 --code-offset 0xffffffffffffffff same.wasm
+: >err
+
+# One function, without colors
+cat >out <<'END'
+  (func (;0;) (type 0) (param i32) (result i32)
+    local.get 0
+  )
+END
+case_of 0 --func 0 same.wasm
+case_of 0 --at=0 --color=always same.wasm --func=0x0
+cat >out <<'END'
+  (func $find (;0;) (type 0) (param $item i32) (result i32) ...)
+END
+# shellcheck disable=SC2016 # the argument starts with a dollar sign
+case_of 0 --skeleton --func '$find' find.wasm
+echo 'wasm2text: same.wasm: no such function' >err
+# shellcheck disable=SC2016 # the argument starts with a dollar sign
+case_of 1 --skeleton --func='$find' same.wasm find.wasm
+: >err
 
 # Output files. The first line of `out` starts what the file holds.
 { echo '-- new.wat:' && cat same.wat; } >out
@@ -422,12 +475,26 @@ Options:
   -f, --fold-instructions  Print each instruction in parentheses
       --indent N           Indent each level by N spaces (default: 2)
       --color WHEN         Print in colors: auto, always or never (default: auto)
+      --at OFFSET          Print only the lines around the byte at OFFSET
+      --code-offset OFFSET
+                           As --at, with OFFSET counted from the code section
+      --func FUNCTION      Print only the text of one function
   -o, --output FILE        Write to FILE instead of standard output
   -h, --help               Print this help
   -V, --version            Print the version
 
 With --color auto, the text is in colors if standard output is a terminal,
 NO_COLOR is unset or empty, and there is no --output.
+
+With --at, the line that shows the byte is marked by >. Up to three lines before
+and after it are printed, and the header of its function, with their numbers in
+the whole text, without colors. OFFSET is a decimal number, or a hexadecimal one
+after 0x. It counts from the start of each module or, with --code-offset, of the
+contents of its code section, as in DWARF.
+
+With --func, the lines of one function are printed as they are in the whole
+text, without colors. FUNCTION is its index, as OFFSET is written, and imported
+functions are counted; or $ and the rest of its identifier, as '$find'.
 
 Exit status:
   0  all files were printed, or the reader of the text closed the pipe

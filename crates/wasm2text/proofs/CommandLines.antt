@@ -1,16 +1,15 @@
 -- Words as arguments, and one word more.
-use Rattle.std.specs.Prelude.{◌≡◌, ℕ, ◌+◌, List, [], ◌∷◌, ◌++◌, map, drop, true, false, codes, Option, Some, None, Result, Ok, Err, MatchResult}
+use Rattle.std.specs.Prelude.{◌≡◌, ℕ, ◌+◌, List, [], ◌∷◌, ◌++◌, map, drop, false, codes, Some, Result, Ok, Err, MatchResult}
 use Rattle.std.proofs.Common.{refl, sym, ap, ◌∙◌, subst, append_assoc, append-nil, inl, inr}
 use Rattle.std.proofs.lemmas.List.{map-append}
 use denote.Ref.{Bor}
 use Rattle.wasm2text.specs.declared.misuse.ArgumentError.{ArgumentError}
-use Rattle.wasm2text.specs.declared.misuse.ArgumentError.TheVariants.{UnknownOption, MissingValue, InvalidValue, Memory}
+use Rattle.wasm2text.specs.declared.misuse.ArgumentError.TheVariants.{UnknownOption, InvalidValue}
 use Rattle.wasm2text.specs.declared.options.Flag.{Flag}
 use Rattle.wasm2text.specs.declared.options.Setting.{Setting}
-use Rattle.wasm2text.specs.declared.parser.Next.{Next}
 use Rattle.wasm2text.specs.declared.parser.Next.TheVariants.{Argument as AnyArgument, Value, File as OnlyFile}
 use Rattle.wasm2text.specs.declared.parser.Parser.{Parser}
-use Rattle.wasm2text.specs.Arguments.{Argument, Flagged, File, IsArgument, AreArguments, IsCommandLine, IsSetting, IsSetTo, IsUnknown, IsArgumentError, flag_named, setting_named, is_dashed, joined_start, request_of}
+use Rattle.wasm2text.specs.Arguments.{Argument, Flagged, File, IsArgument, AreArguments, IsSetTo, IsUnknown, IsArgumentError, flag_named, setting_named, is_dashed, joined_start}
 use Rattle.wasm2text.specs.Parsing.{request_read, Adds, IsBefore, HasRead, Sets}
 
 -- Arguments and one more are the words of both.

@@ -5,7 +5,7 @@ use Rattle.std.proofs.lemmas.List.{drop_more, drop_all}
 use denote.Ref.{Bor}
 use Rattle.wasm2text.specs.declared.printing.Ended.{Ended}
 use Rattle.wasm2text.specs.declared.printing.Ended.TheVariants.{Printed, Refused, Unwritten}
-use Rattle.wasm2text.specs.Messages.{Failure, failure_line}
+use Rattle.wasm2text.specs.Messages.{Failure}
 use Rattle.wasm2text.specs.Outcome.{Series, one_of, EndsAs, IsNoted, PrintsEach, write_failures, Reports, status_of}
 
 -- Failures were reported, and then others.

@@ -6,3 +6,14 @@ pub mod CommandLines
 pub mod Texts
 pub mod Files
 pub mod Runs
+pub mod ShownLines
+pub mod Headers
+pub mod ExcerptLines
+pub mod CodeSections
+pub mod CodeOfModules
+pub mod Excerpts
+pub mod FunctionLines
+pub mod FunctionPlaces
+pub mod FunctionShown
+pub mod FunctionTexts
+pub mod Parts

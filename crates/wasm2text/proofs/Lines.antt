@@ -1,6 +1,6 @@
 -- Each message is one line.
-use Rattle.std.specs.Prelude.{◌≡◌, ℕ, ◌+◌, ◌/◌, ◌%◌, ◌<◌, ◌≤◌, zero, suc, List, [], ◌∷◌, ◌++◌, map, flat_map, chars, encode_utf8_all, Bool, true, false, cond, ◌&&◌, ◌==◌, nat_lt, nat_le, codes, decimal, if◌then◌else◌}
-use Rattle.std.specs.Char.{is_control, digit_char}
+use Rattle.std.specs.Prelude.{◌≡◌, ℕ, ◌+◌, ◌/◌, ◌%◌, ◌<◌, ◌≤◌, zero, suc, List, [], ◌∷◌, ◌++◌, map, flat_map, chars, encode_utf8_all, Bool, true, false, cond, ◌==◌, nat_lt, nat_le, codes, decimal, if◌then◌else◌}
+use Rattle.std.specs.Char.{is_control}
 use Rattle.std.specs.Char.Escape.{short_escape, hex_digit_at, escape_unicode, escape_default}
 use Rattle.std.specs.Fmt.{digit_glyph, digits_onto, digits}
 use Rattle.std.specs.Int.{is_in_range}
@@ -17,9 +17,9 @@ use Rattle.wasmprinter_bytes.specs.declared.library_error.Error.{Error}
 use Rattle.wasmprinter_bytes.specs.declared.library_error.Error.TheVariants.{Malformed, Component, TooManyLocals, TooManyFunctions, EmptyTableInit, FoldLegacy, FoldHint, DylinkSubsection, Unreadable, Printer, Memory as OutOfSpace}
 use Rattle.wasmprinter_bytes.specs.Messages.{place_text, error_text}
 use Rattle.wasm2text.specs.declared.cause.Cause.{Cause}
-use Rattle.wasm2text.specs.declared.cause.Cause.TheVariants.{System, Module, Output}
+use Rattle.wasm2text.specs.declared.cause.Cause.TheVariants.{System, Module, NoByte, NoCode, NoFunction, Output}
 use Rattle.wasm2text.specs.declared.options.Setting.{Setting}
-use Rattle.wasm2text.specs.declared.options.Setting.TheVariants.{Output as SetOutput, Indent, Color}
+use Rattle.wasm2text.specs.declared.options.Setting.TheVariants.{Output as SetOutput, Indent, Color, At, CodeOffset, Func}
 use Rattle.wasm2text.specs.declared.misuse.ArgumentError.{ArgumentError}
 use Rattle.wasm2text.specs.declared.misuse.ArgumentError.TheVariants.{UnknownOption, MissingValue, InvalidValue, Memory}
 use Rattle.wasm2text.specs.Messages.{kind_name, cause_text, is_escaped, message_char, in_message, long_name, misuse_text, Failure, failure_line, misuse_line, IsLine}
@@ -179,6 +179,14 @@ kind k = refl
 cause : (c : Cause) → IsPrintable (cause_text c)
 cause (System e) = kind (error_kind e)
 cause (Module e) = error e
+cause (NoByte offset len) =
+    let hex : (n : ℕ) → IsPrintable (digits 16 false n) = λ n. number 16 n (omega arith) (omega arith) in
+    both_printable (codes "byte 0x") (digits 16 false offset ++ (codes " is not in the module, which has 0x" ++ (digits 16 false len ++ codes " bytes"))) refl
+    (both_printable (digits 16 false offset) (codes " is not in the module, which has 0x" ++ (digits 16 false len ++ codes " bytes")) (hex offset)
+    (both_printable (codes " is not in the module, which has 0x") (digits 16 false len ++ codes " bytes") refl
+    (both_printable (digits 16 false len) (codes " bytes") (hex len) refl)))
+cause NoCode = refl
+cause NoFunction = refl
 cause (Output e) = both_printable (codes "can't write the text: ") (kind_name (error_kind e)) refl (kind (error_kind e))
 
 -- The errors of the command line have no control characters.
@@ -192,6 +200,9 @@ before_value : (s : Setting) → IsPrintable (codes "option '" ++ long_name s ++
 before_value SetOutput = refl
 before_value Indent = refl
 before_value Color = refl
+before_value At = refl
+before_value CodeOffset = refl
+before_value Func = refl
 
 misuse : (e : ArgumentError) → NoCharPasses is_control (misuse_text e)
 misuse (UnknownOption word) = around (codes "unknown option '") word.now (codes "'") refl refl

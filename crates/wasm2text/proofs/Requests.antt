@@ -5,7 +5,7 @@ use Rattle.std.proofs.Common.{refl, sym, ap, ◌∙◌}
 use Rattle.wasm2text.specs.declared.options.Flag.TheVariants.{Help, Version, PrintOffsets, Skeleton, NameUnnamed, FoldInstructions}
 use Rattle.wasm2text.specs.declared.options.ColorChoice.TheVariants.{Auto}
 use Rattle.wasm2text.specs.declared.request.Request.{Request as ReadRequest}
-use Rattle.wasm2text.specs.Arguments.{Argument, is_flag, indent_in, color_in, output_in, file_in, indent_text, last_of, Request, request_of}
+use Rattle.wasm2text.specs.Arguments.{Argument, is_flag, indent_in, color_in, output_in, part_in, file_in, indent_text, last_of, Request, request_of}
 use Rattle.wasm2text.specs.Parsing.{request_read, Adds}
 
 -- The first value, or the second one if there is no first.
@@ -81,6 +81,7 @@ changed r a = record {
   };
   color = unwrap_or (color_in a) r.color;
   output = first_of (output_in a) r.output;
+  part = first_of (part_in a) r.part;
   files = put_last (file_in a) r.files;
 }
 
@@ -96,6 +97,7 @@ request_more arguments a =
       ap indent_text (last_more indent_in arguments a) ∙ indent_first (indent_in a) (last_of indent_in arguments),
       ap (λ o. unwrap_or o Auto) (last_more color_in arguments a) ∙ unwrap_first (color_in a) (last_of color_in arguments) Auto,
       last_more output_in arguments a,
+      last_more part_in arguments a,
       filter_more file_in arguments a,
     ) refl
 

@@ -1,5 +1,5 @@
 -- How printing a file ends, by how printing its module ended.
-use Rattle.std.specs.Prelude.{◌≡◌, ◌↔◌, ℕ, ◌⊎◌, List, [], ◌∷◌, ◌++◌, Bool, true, false, None, Result, Ok, Err, OnOk, IfErr, IsErrOf, MatchResult}
+use Rattle.std.specs.Prelude.{◌≡◌, ◌↔◌, ℕ, ◌⊎◌, List, [], ◌∷◌, ◌++◌, true, false, Result, Ok, Err, OnOk, IfErr, IsErrOf, MatchResult}
 use Rattle.std.specs.List.{concat}
 use Rattle.std.specs.declared.io.Error.{Error as IoError}
 use Rattle.std.proofs.Common.{refl, sym, ap, ◌∙◌, subst, append-nil, inl, inr}
@@ -14,10 +14,9 @@ use Rattle.wasmprinter_spec.proofs.Texts.{alike_texts}
 use Rattle.wasmprinter_print.specs.MadeCalls.{Broken, Interrupted}
 use Rattle.wasmprinter_print.specs.TextOnly.{Writes, WritesTextOnly, text_only}
 use Rattle.wasmprinter_print.proofs.TextRuns.{takes_none}
-use Rattle.wasmprinter_writers.specs.Writing.{Writing, WritesEach}
+use Rattle.wasmprinter_writers.specs.Writing.{WritesEach}
 use Rattle.wasmprinter_print.specs.Change.{change}
 use Rattle.wasmprinter.specs.Printed.{Printed, IsTextOf, no_claims}
-use Rattle.wasmprinter.specs.Colored.{HasColoredTextBy}
 use Rattle.wasmprinter.specs.Outcome.{IsPrintRefusal, IsTextRefusal, Leaves, WhilePrinting, MadeUpTo, without_printer}
 use Rattle.wasmprinter.specs.Prefix.{PutsPrefix}
 use Rattle.wasmprinter.specs.TextOfFile.{AreRefused}
@@ -25,10 +24,10 @@ use Rattle.wasmprinter.proofs.Texts.{IsPlainly, plainly_printed, module_text}
 use Rattle.wasmprinter.proofs.Prefixes.{failed_puts, stopped_puts}
 use Rattle.wasmprinter.proofs.Outcomes.{text_refusal}
 use Rattle.wasmprinter.proofs.TextOfFile.{component_error}
-use Rattle.wasm2text.specs.declared.cause.Cause.TheVariants.{System as Unread, Module, Output}
+use Rattle.wasm2text.specs.declared.cause.Cause.TheVariants.{System as Unread, Module, NoByte, NoCode, NoFunction, Output}
 use Rattle.wasm2text.specs.declared.printing.Ended.{Ended}
 use Rattle.wasm2text.specs.declared.printing.Ended.TheVariants.{Printed as Delivered, Refused, Unwritten}
-use Rattle.wasm2text.specs.Outcome.{Choice, Returns, HasTextIn, IsBeginning, IsCutText, Writer, WritesAll, Delivers, StopsAfter, StaysBehind, Printing, printing, choice, is_late, EndsAs, EndsBy}
+use Rattle.wasm2text.specs.Outcome.{Choice, Plain, Returns, HasTextIn, IsBeginning, IsCutText, Writer, WritesAll, Delivers, StopsAfter, StaysBehind, Printing, printing, choice, is_late, EndsAs, EndsBy}
 
 -- The pieces of text that calls write.
 abbrev pieces_of : List Call → List (List ℕ)
@@ -68,7 +67,7 @@ ends_flushed w old last new text (Err error) all flushed = inr (last, all, flush
 
 -- If the text was written, then printing the file ends as flushing the writer does.
 pub ends_written : {W : Type 0} (p : Printing W) (file wasm text : List ℕ) (s t new : W) (ended : Ended) → p.may_read file (Ok wasm) →
-    HasTextIn p.choice.colored p.choice.options wasm text → WritesAll p.out s text t → EndsBy p.out t (Ok tt) ended new → EndsAs p s file ended new
+    HasTextIn p.choice.form p.choice.options wasm text → WritesAll p.out s text t → EndsBy p.out t (Ok tt) ended new → EndsAs p s file ended new
 ends_written p file wasm text s t new ended read has all (inl h) =
     subst (λ e. EndsAs p s file e new) (sym h.0) (wasm, text, read, has, (t, all, h.1))
 ends_written p file wasm text s t new ended read has all (inr h) =
@@ -76,7 +75,7 @@ ends_written p file wasm text s t new ended read has all (inr h) =
 
 -- If a write of the text failed, then printing the file ends with this error.
 pub ends_unwritten : {W : Type 0} (p : Printing W) (file wasm text : List ℕ) (s new : W) (ended : Ended) (error : IoError) → ended ≡ Unwritten error →
-    p.may_read file (Ok wasm) → IsCutText p.choice.colored p.choice.options wasm text → StopsAfter p.out s text error new → EndsAs p s file ended new
+    p.may_read file (Ok wasm) → IsCutText p.choice.form p.choice.options wasm text → StopsAfter p.out s text error new → EndsAs p s file ended new
 ends_unwritten p file wasm text s new ended error e read begins stops =
     subst (λ x. EndsAs p s file x new) (sym e) (wasm, text, read, inl (begins, stops))
 
@@ -156,9 +155,9 @@ module _ {P W : Type 0} (inner : P → W) (w : Writer W) where
   }
 
   -- A prefix of the text was written.
-  left_text : (o : Options) (may_read : List ℕ → Result (List ℕ) IoError → Type 0) (wasm : List ℕ) (s t : P) (error : Error) → is_late (choice o false) error ≡ true →
+  left_text : (o : Options) (may_read : List ℕ → Result (List ℕ) IoError → Type 0) (wasm : List ℕ) (s t : P) (error : Error) → is_late (choice o Plain) error ≡ true →
       WhilePrinting o wasm (λ placed answers. Interrupted (text_only own) s t (layout (with_color o false) answers placed)) →
-      LeavesText (printing may_read (choice o false) w) (inner s) wasm error (inner t)
+      LeavesText (printing may_read (choice o Plain) w) (inner s) wasm error (inner t)
   left_text o may_read wasm s t error late h =
       let puts : PutsPrefix o wasm (λ text. WritesAll w (inner s) text (inner t)) =
       stopped_puts (change (text_only own) s t) (takes_none own) o wasm (λ text. WritesAll w (inner s) text (inner t))
@@ -172,7 +171,7 @@ module _ {P W : Type 0} (inner : P → W) (w : Writer W) where
   -- A module that is printed without colors.
   module _ (o : Options) (may_read : List ℕ → Result (List ℕ) IoError → Type 0) (file wasm : List ℕ) (s t : P) where
     abbrev plain : Printing W
-    plain = printing may_read (choice o false) w
+    plain = printing may_read (choice o Plain) w
 
     -- If the module was refused, then printing the file ends with this error.
     refuses : (error : Error) (ended : Ended) (new : W) → may_read file (Ok wasm) → AreRefused o wasm error → LeavesText plain (inner s) wasm error (inner t) →
@@ -235,5 +234,8 @@ pub ends_from : {W : Type 0} (may_read : List ℕ → Result (List ℕ) IoError 
 ends_from may_read by w wasm file old Delivered new read h = (h.0, h.1, rw h.2 read, h.3, h.4)
 ends_from may_read by w wasm file old (Refused (Unread error)) new read h = (h.0, (rw h.1.0 read, h.1.1))
 ends_from may_read by w wasm file old (Refused (Module error)) new read h = (h.0, (h.1.0, h.1.1, rw h.1.2 read, h.1.3, h.1.4, h.1.5, h.1.6))
+ends_from may_read by w wasm file old (Refused (NoByte offset len)) new read h = (h.0, (h.1.0, h.1.1, rw h.1.2 read, h.1.3, h.1.4, h.1.5))
+ends_from may_read by w wasm file old (Refused NoCode) new read h = (h.0, (h.1.0, h.1.1, rw h.1.2 read, h.1.3, h.1.4, h.1.5))
+ends_from may_read by w wasm file old (Refused NoFunction) new read h = (h.0, (h.1.0, h.1.1, rw h.1.2 read, h.1.3, h.1.4, h.1.5))
 ends_from may_read by w wasm file old (Refused (Output error)) new read h = (h.0, (h.1.0, h.1.1, rw h.1.2 read, h.1.3))
 ends_from may_read by w wasm file old (Unwritten error) new read h = (h.0, h.1, rw h.2 read, h.3)

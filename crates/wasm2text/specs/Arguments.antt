@@ -3,14 +3,17 @@ use Rattle.std.specs.Prelude.{◌≡◌, ◌≢◌, ℕ, ◌^◌, ◌<◌, ◌�
 use Rattle.std.specs.List.{starts_with, list_any, filter_map, last_or, repeat}
 use Rattle.std.specs.Str.Parse.{IsNumeral, digits_value, without_leading_plus}
 use Rattle.wasmprinter_spec.specs.Options.{Options, defaults}
+use Rattle.wasm2text.specs.FunctionText.{Function, Index, Identifier}
+use Rattle.wasm2text.specs.Parts.{Part, Excerpt, OneFunction}
 use Rattle.wasm2text.specs.declared.misuse.ArgumentError.{ArgumentError}
 use Rattle.wasm2text.specs.declared.misuse.ArgumentError.TheVariants.{UnknownOption, MissingValue, InvalidValue, Memory}
 use Rattle.wasm2text.specs.declared.options.Flag.{Flag}
 use Rattle.wasm2text.specs.declared.options.Flag.TheVariants.{Help, Version, PrintOffsets, Skeleton, NameUnnamed, FoldInstructions}
 use Rattle.wasm2text.specs.declared.options.Setting.{Setting}
-use Rattle.wasm2text.specs.declared.options.Setting.TheVariants.{Output, Indent, Color}
+use Rattle.wasm2text.specs.declared.options.Setting.TheVariants.{Output, Indent, Color, At as SetAt, CodeOffset as SetCodeOffset, Func as SetFunc}
 use Rattle.wasm2text.specs.declared.options.ColorChoice.{ColorChoice}
 use Rattle.wasm2text.specs.declared.options.ColorChoice.TheVariants.{Auto, Always, Never}
+use Rattle.wasm2text.specs.declared.target.Target.TheVariants.{Byte, CodeByte}
 
 -- The name is one of two names.
 abbrev pub is_either : List ℕ → List ℕ → List ℕ → Bool
@@ -33,6 +36,9 @@ setting_named name =
     if is_either name (codes "-o") (codes "--output") then Some Output
     else if bytes_eq name (codes "--indent") then Some Indent
     else if bytes_eq name (codes "--color") then Some Color
+    else if bytes_eq name (codes "--at") then Some SetAt
+    else if bytes_eq name (codes "--code-offset") then Some SetCodeOffset
+    else if bytes_eq name (codes "--func") then Some SetFunc
     else None
 
 -- The choice of colors that has this name.
@@ -53,6 +59,7 @@ pub data Argument : Type 0 where
   WrittenTo : List ℕ → Argument
   IndentedBy : ℕ → Argument
   Colored : ColorChoice → Argument
+  Shows : Part → Argument
   File : List ℕ → Argument
 
 -- The word is a decimal number below 2 to the 32, which may start with `+`.
@@ -61,17 +68,38 @@ IsNumber word n =
     let digits : List ℕ = without_leading_plus word in
     IsNumeral 10 digits × (digits_value 10 digits < 2 ^ 32) × (n ≡ digits_value 10 digits)
 
+-- These are digits with this base, and write this number, which is below 2 to the 64.
+abbrev pub IsOffsetIn : ℕ → List ℕ → ℕ → Type 0
+IsOffsetIn base digits n = IsNumeral base digits × (digits_value base digits < 2 ^ 64) × (n ≡ digits_value base digits)
+
+-- The word is a decimal number, or `0x` and then a hexadecimal number.
+abbrev pub IsOffset : List ℕ → ℕ → Type 0
+IsOffset word n = IsOffsetIn 10 word n ⊎ ((digits : List ℕ) × (word ≡ codes "0x" ++ digits) × IsOffsetIn 16 digits n)
+
+-- The word names this function: by a dollar sign and the rest of its identifier, or by its index, which is written as an
+-- offset is.
+abbrev pub IsFunctionWord : List ℕ → Function → Type 0
+IsFunctionWord word function =
+    ((content : List ℕ) × (word ≡ codes "$" ++ content) × (function ≡ Identifier content))
+    ⊎ ((n : ℕ) × IsOffset word n × (function ≡ Index n))
+
 -- The option with this value is this argument.
 abbrev pub IsSetTo : Setting → List ℕ → Argument → Type 0
 IsSetTo Output value argument = argument ≡ WrittenTo value
 IsSetTo Indent value argument = (n : ℕ) × IsNumber value n × (argument ≡ IndentedBy n)
 IsSetTo Color value argument = (choice : ColorChoice) × (color_named value ≡ Some choice) × (argument ≡ Colored choice)
+IsSetTo SetAt value argument = (n : ℕ) × IsOffset value n × (argument ≡ Shows (Excerpt (Byte n)))
+IsSetTo SetCodeOffset value argument = (n : ℕ) × IsOffset value n × (argument ≡ Shows (Excerpt (CodeByte n)))
+IsSetTo SetFunc value argument = (function : Function) × IsFunctionWord value function × (argument ≡ Shows (OneFunction function))
 
 -- A word with this prefix is the option and its value.
 abbrev pub joined_start : Setting → List ℕ
 joined_start Output = codes "--output="
 joined_start Indent = codes "--indent="
 joined_start Color = codes "--color="
+joined_start SetAt = codes "--at="
+joined_start SetCodeOffset = codes "--code-offset="
+joined_start SetFunc = codes "--func="
 
 -- These words are the option and its value: a name of it and the value, or one word.
 abbrev pub IsSetting : Setting → List ℕ → List (List ℕ) → Type 0
@@ -136,6 +164,10 @@ abbrev pub color_in : Argument → Option ColorChoice
 color_in (Colored choice) = Some choice
 color_in argument = None
 
+abbrev pub part_in : Argument → Option Part
+part_in (Shows part) = Some part
+part_in argument = None
+
 abbrev pub file_in : Argument → Option (List ℕ)
 file_in (File file) = Some file
 file_in argument = None
@@ -170,6 +202,7 @@ pub record Request : Type 0 where
   pub options : Options
   pub color : ColorChoice
   pub output : Option (List ℕ)
+  pub part : Option Part
   pub files : List (List ℕ)
 
 -- The request that the arguments make, in any order. An option may be repeated; its last value counts.
@@ -186,6 +219,7 @@ request_of arguments = record {
   };
   color = unwrap_or (last_of color_in arguments) Auto;
   output = last_of output_in arguments;
+  part = last_of part_in arguments;
   files = filter_map file_in arguments;
 }
 

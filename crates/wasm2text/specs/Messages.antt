@@ -3,15 +3,15 @@ use Rattle.std.specs.Prelude.{◌≡◌, ℕ, List, [], ◌∷◌, ◌++◌, fla
 use Rattle.std.specs.Char.{is_control}
 use Rattle.std.specs.Char.Escape.{backslash, escape_default}
 use Rattle.std.specs.Str.{NoCharPasses}
+use Rattle.std.specs.Fmt.{digits}
 use Rattle.std.specs.IoError.{error_kind}
-use Rattle.std.specs.declared.io.Error.{Error as IoError}
 use Rattle.std.specs.declared.io.ErrorKind.{ErrorKind}
 use Rattle.std.specs.declared.io.ErrorKind.TheVariants.{NotFound, PermissionDenied, IsADirectory, NotADirectory, InvalidFilename, FilesystemLoop, ReadOnlyFilesystem, StorageFull, QuotaExceeded, FileTooLarge, BrokenPipe, OutOfMemory}
 use Rattle.wasmprinter_bytes.specs.Messages.{error_text}
 use Rattle.wasm2text.specs.declared.cause.Cause.{Cause}
-use Rattle.wasm2text.specs.declared.cause.Cause.TheVariants.{System, Module, Output}
+use Rattle.wasm2text.specs.declared.cause.Cause.TheVariants.{System, Module, NoByte, NoCode, NoFunction, Output}
 use Rattle.wasm2text.specs.declared.options.Setting.{Setting}
-use Rattle.wasm2text.specs.declared.options.Setting.TheVariants.{Output as SetOutput, Indent, Color}
+use Rattle.wasm2text.specs.declared.options.Setting.TheVariants.{Output as SetOutput, Indent, Color, At, CodeOffset, Func}
 use Rattle.wasm2text.specs.declared.misuse.ArgumentError.{ArgumentError}
 use Rattle.wasm2text.specs.declared.misuse.ArgumentError.TheVariants.{UnknownOption, MissingValue, InvalidValue, Memory}
 
@@ -40,6 +40,10 @@ is_closed_pipe kind = false
 abbrev pub cause_text : Cause → List ℕ
 cause_text (System error) = kind_name (error_kind error)
 cause_text (Module error) = error_text error
+cause_text (NoByte offset len) =
+    codes "byte 0x" ++ (digits 16 false offset ++ (codes " is not in the module, which has 0x" ++ (digits 16 false len ++ codes " bytes")))
+cause_text NoCode = codes "module has no code section"
+cause_text NoFunction = codes "no such function"
 cause_text (Output error) = codes "can't write the text: " ++ kind_name (error_kind error)
 
 -- A character of a name or a word is escaped in a message if it is a control character or a backslash.
@@ -59,6 +63,9 @@ abbrev pub long_name : Setting → List ℕ
 long_name SetOutput = codes "--output"
 long_name Indent = codes "--indent"
 long_name Color = codes "--color"
+long_name At = codes "--at"
+long_name CodeOffset = codes "--code-offset"
+long_name Func = codes "--func"
 
 -- The error of the command line, in words.
 abbrev pub misuse_text : ArgumentError → List ℕ

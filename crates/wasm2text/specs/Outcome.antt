@@ -1,5 +1,5 @@
 -- The outcome of a run: what is printed and written, which failures are reported, and the exit status.
-use Rattle.std.specs.Prelude.{◌≡◌, ◌≢◌, ℕ, ◌⊎◌, List, [], ◌∷◌, ◌++◌, Bool, true, false, ◌&&◌, not, codes, Option, Some, None, is_none, Result, Ok, Err, cond, if◌then◌else◌}
+use Rattle.std.specs.Prelude.{◌≡◌, ◌≢◌, ℕ, ◌⊎◌, List, [], ◌∷◌, Bool, true, false, ◌&&◌, codes, Option, Some, None, is_none, Result, Ok, Err, cond, if◌then◌else◌}
 use Rattle.std.specs.List.{concat}
 use Rattle.std.specs.IoError.{error_kind}
 use Rattle.std.specs.declared.io.Error.{Error as IoError}
@@ -12,11 +12,17 @@ use Rattle.wasmprinter.specs.Colored.{HasColoredTextBy}
 use Rattle.wasmprinter.specs.Prefix.{PutsPrefix}
 use Rattle.wasmprinter.specs.TextOfFile.{AreRefused}
 use Rattle.wasm2text.specs.Arguments.{Argument, IsCommandLine, IsArgumentError, Request, request_of, with_input}
+use Rattle.wasm2text.specs.Excerpt.{HaveNoByte, HaveNoCode}
+use Rattle.wasm2text.specs.FunctionText.{Function, HaveNoFunction}
 use Rattle.wasm2text.specs.Messages.{is_closed_pipe, Failure, failure_line, misuse_line}
 use Rattle.wasm2text.specs.OutputFiles.{Creating, Closing, WritesFile, FlushesFile, ClosesFile, uncreated_file}
 use Rattle.wasm2text.specs.OwnTexts.{help_text, version_text}
+use Rattle.wasm2text.specs.Parts.{Part, Excerpt, OneFunction, part_view, IsPartOf}
 use Rattle.wasm2text.specs.declared.cause.Cause.{Cause}
-use Rattle.wasm2text.specs.declared.cause.Cause.TheVariants.{System as Unread, Module, Output}
+use Rattle.wasm2text.specs.declared.cause.Cause.TheVariants.{System as Unread, Module, NoByte, NoCode, NoFunction, Output}
+use Rattle.wasm2text.specs.declared.form.Form.{Form as ReadForm}
+use Rattle.wasm2text.specs.declared.form.Form.TheVariants as read
+use Rattle.wasm2text.specs.declared.printing.Style.{Style}
 use Rattle.wasm2text.specs.declared.printing.Ended.{Ended}
 use Rattle.wasm2text.specs.declared.printing.Ended.TheVariants.{Printed, Refused, Unwritten}
 use Rattle.wasm2text.specs.declared.output.OutputFile.{OutputFile}
@@ -24,11 +30,25 @@ use Rattle.wasm2text.specs.declared.misuse.ArgumentError.{ArgumentError}
 use Rattle.wasm2text.specs.declared.misuse.ArgumentError.TheVariants.{Memory}
 use Rattle.wasm2text.specs.declared.options.ColorChoice.{ColorChoice}
 use Rattle.wasm2text.specs.declared.options.ColorChoice.TheVariants.{Auto, Always, Never}
+use Rattle.wasm2text.specs.declared.target.Target.{Target}
+use Rattle.wasm2text.specs.declared.target.Target.TheVariants.{CodeByte}
 
--- How a text is made: the options of printing, and whether the text has ANSI escape sequences.
+-- What is written for a module: the text, the text with ANSI escape sequences, or a part of the text without them.
+pub data Form : Type 0 where
+  Plain : Form
+  InColors : Form
+  PartForm : Part → Form
+
+-- The form that the program's value represents.
+abbrev pub form_view : ReadForm → Form
+form_view read.Plain = Plain
+form_view read.InColors = InColors
+form_view (read.Part part) = PartForm (part_view part)
+
+-- How a module is printed: the options of printing, and the form.
 pub record Choice : Type 0 where
   pub options : Options
-  pub colored : Bool
+  pub form : Form
 
 -- Colors are chosen: `auto` chooses them if standard output shows colors and the text goes there.
 abbrev pub is_colored : ColorChoice → Option (List ℕ) → Bool → Bool
@@ -37,17 +57,27 @@ is_colored Always output shows_colors = true
 is_colored Never output shows_colors = false
 
 -- The choice with these parts.
-abbrev pub choice : Options → Bool → Choice
-choice o colored = record { options = o; colored = colored }
+abbrev pub choice : Options → Form → Choice
+choice o form = record { options = o; form = form }
+
+-- The choice that the program's value represents.
+abbrev pub style_choice : Style → Choice
+style_choice style = choice style.options.config.now (form_view style.form)
+
+-- The form: a part if one is chosen, and otherwise the text, with colors or without. A part has no colors.
+abbrev pub form_of : Option Part → Bool → Form
+form_of (Some part) colored = PartForm part
+form_of None colored = if colored then InColors else Plain
 
 -- The choice of a request, if standard output shows colors or does not.
 abbrev pub choice_of : Request → Bool → Choice
-choice_of request shows_colors = choice request.options (is_colored request.color request.output shows_colors)
+choice_of request shows_colors = choice request.options (form_of request.part (is_colored request.color request.output shows_colors))
 
--- The text is that of the module that the bytes encode, with ANSI escape sequences or without.
-abbrev pub HasTextIn : Bool → Options → List ℕ → List ℕ → Type 0
-HasTextIn true o wasm text = HasColoredTextBy o wasm text
-HasTextIn false o wasm text = IsTextOf o wasm text
+-- The text is that of the module that the bytes encode, with ANSI escape sequences or without, or is a part of it.
+abbrev pub HasTextIn : Form → Options → List ℕ → List ℕ → Type 0
+HasTextIn InColors o wasm text = HasColoredTextBy o wasm text
+HasTextIn Plain o wasm text = IsTextOf o wasm text
+HasTextIn (PartForm part) o wasm text = IsPartOf o wasm part text
 
 -- The text is empty, or a prefix of the text of the module that the bytes encode, without ANSI escape sequences.
 abbrev pub IsBeginning : Options → List ℕ → List ℕ → Type 0
@@ -110,32 +140,47 @@ printing may_read choice out = record { may_read = may_read; choice = choice; ou
 -- The text of the module in this file was delivered.
 abbrev pub PrintsFile : {W : Type 0} → Printing W → W → List ℕ → W → Type 0
 PrintsFile p old file new =
-    (wasm text : List ℕ) × p.may_read file (Ok wasm) × HasTextIn p.choice.colored p.choice.options wasm text × Delivers p.out old text new
+    (wasm text : List ℕ) × p.may_read file (Ok wasm) × HasTextIn p.choice.form p.choice.options wasm text × Delivers p.out old text new
 
--- A part of the text may be written before this error: without ANSI escape sequences, before an unknown subsection of a
--- `dylink.0` section, and if operators are folded, before an allocation fails.
+-- The text without ANSI escape sequences is written while it is made. All else is written when it is complete.
+abbrev pub is_streamed : Form → Bool
+is_streamed Plain = true
+is_streamed form = false
+
+-- A part of the text may be written before this error, if it is written while it is made: before an unknown subsection of
+-- a `dylink.0` section, and if operators are folded, before an allocation fails.
 abbrev pub is_late : Choice → Error → Bool
-is_late c (DylinkSubsection id) = not c.colored
-is_late c NoMemory = not c.colored && c.options.folds
+is_late c (DylinkSubsection id) = is_streamed c.form
+is_late c NoMemory = is_streamed c.form && c.options.folds
 is_late c error = false
 
 -- The text that was written before a write failed: a prefix of the text of the module that the bytes encode. A text with
--- ANSI escape sequences is written in one write, so nothing was written before.
-abbrev pub IsCutText : Bool → Options → List ℕ → List ℕ → Type 0
-IsCutText true o wasm text = (text ≡ []) × ((whole : List ℕ) × HasColoredTextBy o wasm whole)
-IsCutText false o wasm text = PutsPrefix o wasm (λ prefix. prefix ≡ text)
+-- ANSI escape sequences and a part are written in one write, so nothing was written before.
+abbrev pub IsCutText : Form → Options → List ℕ → List ℕ → Type 0
+IsCutText InColors o wasm text = (text ≡ []) × ((whole : List ℕ) × HasColoredTextBy o wasm whole)
+IsCutText Plain o wasm text = PutsPrefix o wasm (λ prefix. prefix ≡ text)
+IsCutText (PartForm part) o wasm text = (text ≡ []) × ((whole : List ℕ) × IsPartOf o wasm part whole)
 
--- This file was not printed, for this cause: it can't be read and nothing was written; its module is refused; or the
--- text can't be written.
+-- This file was not printed, for this cause: it can't be read and nothing was written; its module is refused; its module
+-- does not have the byte, the code section or the function, and nothing was written; or the text can't be written.
 abbrev pub FailsOn : {W : Type 0} → Printing W → W → List ℕ → Cause → W → Type 0
 FailsOn p old file (Unread error) new = p.may_read file (Err error) × (new ≡ old)
 FailsOn p old file (Module error) new =
     (wasm text : List ℕ) × p.may_read file (Ok wasm) × AreRefused p.choice.options wasm error
     × (is_late p.choice error ≡ false → text ≡ []) × IsBeginning p.choice.options wasm text × WritesAll p.out old text new
+FailsOn p old file (NoByte offset len) new =
+    (wasm : List ℕ) × (target : Target) × p.may_read file (Ok wasm) × (p.choice.form ≡ PartForm (Excerpt target))
+    × HaveNoByte p.choice.options wasm target offset len × (new ≡ old)
+FailsOn p old file NoCode new =
+    (wasm : List ℕ) × (offset : ℕ) × p.may_read file (Ok wasm) × (p.choice.form ≡ PartForm (Excerpt (CodeByte offset)))
+    × HaveNoCode p.choice.options wasm × (new ≡ old)
+FailsOn p old file NoFunction new =
+    (wasm : List ℕ) × (function : Function) × p.may_read file (Ok wasm) × (p.choice.form ≡ PartForm (OneFunction function))
+    × HaveNoFunction p.choice.options wasm function × (new ≡ old)
 FailsOn p old file (Output error) new =
     (wasm text : List ℕ) × p.may_read file (Ok wasm)
-    × ((IsCutText p.choice.colored p.choice.options wasm text × StopsAfter p.out old text error new)
-    ⊎ (HasTextIn p.choice.colored p.choice.options wasm text × StaysBehind p.out old text error new))
+    × ((IsCutText p.choice.form p.choice.options wasm text × StopsAfter p.out old text error new)
+    ⊎ (HasTextIn p.choice.form p.choice.options wasm text × StaysBehind p.out old text error new))
 
 -- The cause is that the text can't be written.
 abbrev pub is_output : Cause → Bool

@@ -1,7 +1,8 @@
 -- The state between two words of the command line, and the request that the words so far make.
-use Rattle.std.specs.Prelude.{◌≡◌, ℕ, List, [], ◌∷◌, ◌++◌, map, codes, Option, Some, Result, MatchResult, option_copied}
+use Rattle.std.specs.Prelude.{◌≡◌, ℕ, List, [], ◌∷◌, ◌++◌, map, codes, Some, Result, MatchResult, option_copied, option_map}
 use Rattle.wasmprinter_spec.specs.Options.{Options, defaults}
 use Rattle.wasm2text.specs.Arguments.{Argument, File, AreArguments, setting_named, IsArgumentError, indent_text, Request, request_of}
+use Rattle.wasm2text.specs.Parts.{part_view}
 use Rattle.wasm2text.specs.declared.misuse.ArgumentError.{ArgumentError}
 use Rattle.wasm2text.specs.declared.parser.Next.{Next}
 use Rattle.wasm2text.specs.declared.parser.Next.TheVariants.{Argument as AnyArgument, Value, File as OnlyFile}
@@ -26,6 +27,7 @@ request_read r = record {
   options = options_read r;
   color = r.color;
   output = option_copied r.output;
+  part = option_map part_view r.part;
   files = map (λ file. file.now) r.files.items;
 }
 

@@ -2,8 +2,10 @@
 ghost use Rattle.std.specs.Prelude.{◌≡◌, Some};
 ghost use Rattle.std.specs.IoError.{error_kind};
 ghost use Rattle.wasm2text.specs.Messages.{kind_name, cause_text, is_closed_pipe};
-ghost use Rattle.wasm2text.specs.Outcome.{is_output};
+ghost use Rattle.wasmprinter_bytes.specs.declared.library_error.Error.TheVariants.{Memory};
+ghost use Rattle.wasm2text.specs.declared.cause.Cause.TheVariants.{Module};
 
+use std::alloc::AllocError;
 use std::io::ErrorKind;
 use std::{fmt, io};
 use wasmprinter::Error;
@@ -15,6 +17,17 @@ pub enum Cause {
     System(io::Error),
     /// The module can't be printed.
     Module(Error),
+    /// The module has no byte at this offset.
+    NoByte {
+        /// The offset from the start of the module, or `u64::MAX` if it is greater.
+        offset: u64,
+        /// The number of bytes of the module.
+        len: u64,
+    },
+    /// The module has no code section.
+    NoCode,
+    /// The module does not have the function.
+    NoFunction,
     /// The text can't be written.
     Output(io::Error),
 }
@@ -54,10 +67,32 @@ impl fmt::Display for Cause {
         match self {
             Cause::System(error) => f.write_str(kind_name(error.kind())),
             Cause::Module(error) => write!(f, "{error}"),
+            Cause::NoByte { offset, len } => write!(
+                f,
+                "byte 0x{offset:x} is not in the module, which has 0x{len:x} bytes"
+            ),
+            Cause::NoCode => f.write_str("module has no code section"),
+            Cause::NoFunction => f.write_str("no such function"),
             Cause::Output(error) => {
                 let name = kind_name(error.kind());
                 write!(f, "can't write the text: {name}")
             }
         }
+    }
+}
+
+impl From<Error> for Cause {
+    ghost from_gives = { λ error cause. cause ≡ Module error };
+
+    fn from(error: Error) -> Cause {
+        Cause::Module(error)
+    }
+}
+
+impl From<AllocError> for Cause {
+    ghost from_gives = { λ _ cause. cause ≡ Module Memory };
+
+    fn from(_error: AllocError) -> Cause {
+        Cause::Module(Error::Memory)
     }
 }

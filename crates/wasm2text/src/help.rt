@@ -14,12 +14,26 @@ Options:
   -f, --fold-instructions  Print each instruction in parentheses
       --indent N           Indent each level by N spaces (default: 2)
       --color WHEN         Print in colors: auto, always or never (default: auto)
+      --at OFFSET          Print only the lines around the byte at OFFSET
+      --code-offset OFFSET
+                           As --at, with OFFSET counted from the code section
+      --func FUNCTION      Print only the text of one function
   -o, --output FILE        Write to FILE instead of standard output
   -h, --help               Print this help
   -V, --version            Print the version
 
 With --color auto, the text is in colors if standard output is a terminal,
 NO_COLOR is unset or empty, and there is no --output.
+
+With --at, the line that shows the byte is marked by >. Up to three lines before
+and after it are printed, and the header of its function, with their numbers in
+the whole text, without colors. OFFSET is a decimal number, or a hexadecimal one
+after 0x. It counts from the start of each module or, with --code-offset, of the
+contents of its code section, as in DWARF.
+
+With --func, the lines of one function are printed as they are in the whole
+text, without colors. FUNCTION is its index, as OFFSET is written, and imported
+functions are counted; or $ and the rest of its identifier, as '$find'.
 
 Exit status:
   0  all files were printed, or the reader of the text closed the pipe

@@ -4,15 +4,29 @@
 #[cfg(test)]
 mod call_tests;
 mod cause;
+mod code_section;
+mod decoded;
 mod escaped;
+mod excerpt;
+#[cfg(test)]
+mod excerpt_tests;
+mod form;
+mod function_ref;
+mod function_search;
+#[cfg(test)]
+mod function_tests;
+mod function_text;
 mod help;
+mod line_search;
 mod messages;
 mod misuse;
+mod offset;
 mod options;
 mod output;
 #[cfg(test)]
 mod output_file_tests;
 mod parser;
+mod part;
 mod printing;
 mod program;
 #[cfg(test)]
@@ -20,6 +34,8 @@ mod program_tests;
 mod request;
 mod status;
 mod system;
+mod target;
+mod text_options;
 
 use program::{BUFFER_LEN, run};
 use status::FAILED;

@@ -46,6 +46,12 @@ pub enum Setting {
     Indent,
     /// Whether the text has ANSI escape sequences.
     Color,
+    /// The offset of the byte that an excerpt of the text shows, from the start of the module.
+    At,
+    /// The offset of the byte that an excerpt of the text shows, from the start of the code section's contents.
+    CodeOffset,
+    /// The function whose text is printed alone.
+    Func,
 }
 
 impl Setting {
@@ -57,6 +63,9 @@ impl Setting {
             "-o" | "--output" => Some(Setting::Output),
             "--indent" => Some(Setting::Indent),
             "--color" => Some(Setting::Color),
+            "--at" => Some(Setting::At),
+            "--code-offset" => Some(Setting::CodeOffset),
+            "--func" => Some(Setting::Func),
             _ => None,
         }
     }
@@ -69,6 +78,9 @@ impl Setting {
             Setting::Output => "--output",
             Setting::Indent => "--indent",
             Setting::Color => "--color",
+            Setting::At => "--at",
+            Setting::CodeOffset => "--code-offset",
+            Setting::Func => "--func",
         }
     }
 }
@@ -86,6 +98,15 @@ pub fn joined(word: &str) -> Option<(Setting, &str)>
     }
     if let Some(value) = word.strip_prefix("--color=") {
         return Some((Setting::Color, value));
+    }
+    if let Some(value) = word.strip_prefix("--at=") {
+        return Some((Setting::At, value));
+    }
+    if let Some(value) = word.strip_prefix("--code-offset=") {
+        return Some((Setting::CodeOffset, value));
+    }
+    if let Some(value) = word.strip_prefix("--func=") {
+        return Some((Setting::Func, value));
     }
     None
 }

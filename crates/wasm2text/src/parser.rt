@@ -5,9 +5,13 @@ ghost use Rattle.wasm2text.specs.Parsing.{request_read, Reads, Sets};
 ghost use Rattle.wasm2text.specs.declared.parser.Next.TheVariants.{Argument as AnyArgument};
 ghost use Rattle.wasm2text.specs.declared.misuse.ArgumentError.TheVariants.{InvalidValue};
 
+use crate::function_ref::FunctionRef;
 use crate::misuse::ArgumentError;
+use crate::offset::read_offset;
 use crate::options::{ColorChoice, Flag, Setting, is_dashed, joined};
+use crate::part::Part;
 use crate::request::Request;
+use crate::target::Target;
 use std::alloc::Global;
 
 /// The word after which all words are files.
@@ -84,26 +88,33 @@ impl<'a> Parser<'a> {
             (λ _. (argument : Argument) × IsSetTo setting value.now argument × Sets self.old argument self.new)
             (λ error. (error ≡ InvalidValue setting value.entry) × ((argument : Argument) → IsSetTo setting value.now argument → ⊥)) }
     {
+        let invalid = ArgumentError::InvalidValue { setting, value };
         match setting {
-            Setting::Output => {
-                self.request.write_to(value);
-                Ok(())
-            }
+            Setting::Output => self.request.write_to(value),
             Setting::Indent => match value.parse::<u32>() {
-                Ok(spaces) => {
-                    self.request.indent_by(spaces);
-                    Ok(())
-                }
-                Err(_) => Err(ArgumentError::InvalidValue { setting, value }),
+                Ok(spaces) => self.request.indent_by(spaces),
+                Err(_) => return Err(invalid),
             },
             Setting::Color => match ColorChoice::named(value) {
-                Some(choice) => {
-                    self.request.choose_color(choice);
-                    Ok(())
-                }
-                None => Err(ArgumentError::InvalidValue { setting, value }),
+                Some(choice) => self.request.choose_color(choice),
+                None => return Err(invalid),
+            },
+            Setting::At => match read_offset(value) {
+                Some(offset) => self.request.show_part(Part::Excerpt(Target::Byte(offset))),
+                None => return Err(invalid),
+            },
+            Setting::CodeOffset => match read_offset(value) {
+                Some(offset) => self
+                    .request
+                    .show_part(Part::Excerpt(Target::CodeByte(offset))),
+                None => return Err(invalid),
+            },
+            Setting::Func => match FunctionRef::named(value) {
+                Some(function) => self.request.show_part(Part::Function(function)),
+                None => return Err(invalid),
             },
         }
+        Ok(())
     }
 }
 

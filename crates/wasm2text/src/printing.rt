@@ -1,14 +1,18 @@
 //! Printing files to a writer.
-ghost use Rattle.std.specs.Prelude.{◌≡◌, List, [], None, map, true, false, Result, Ok, Err, MatchResult};
+ghost use Rattle.std.specs.Prelude.{◌≡◌, List, [], None, map, Result, Ok, Err, MatchResult};
 ghost use Rattle.wasm2text.specs.Messages.{Failure};
-ghost use Rattle.wasm2text.specs.Outcome.{Reads, between, Returns, writer, printing, series, choice, EndsAs, EndsBy, IsNoted, PrintsEach, Reports, write_failures, status_of};
+ghost use Rattle.wasm2text.specs.Parts.{part_view};
+ghost use Rattle.wasm2text.specs.Outcome.{Reads, between, Returns, Plain, InColors, PartForm, writer, printing, series, choice, style_choice, EndsAs, EndsBy, IsNoted, PrintsEach, Reports, write_failures, status_of};
 
 use crate::cause::{Cause, is_closed_pipe};
+use crate::form::Form;
 use crate::messages::{Messages, report};
 use crate::output::{Output, PrintOutput};
+use crate::part::{Part, text_of_part};
 use crate::request::STANDARD_INPUT;
 use crate::status::{FAILED, PRINTED};
 use crate::system::Inputs;
+use crate::text_options::TextOptions;
 use std::alloc::Global;
 use std::io;
 use wasmprinter::{Config, Error};
@@ -17,9 +21,9 @@ use wasmprinter::{Config, Error};
 #[derive(Clone, Copy)]
 pub struct Style<'a> {
     /// The options of printing.
-    pub config: &'a Config,
-    /// The text has ANSI escape sequences.
-    pub is_colored: bool,
+    pub options: TextOptions<'a>,
+    /// What is written.
+    pub form: Form<'a>,
 }
 
 /// How printing a file ended.
@@ -44,7 +48,7 @@ pub fn print_files<I: Inputs, O: Output + Drop, E: Messages>(
     err: &mut E,
 ) -> (u8, O)
     ensures { (failures : List Failure)
-        × PrintsEach (series (Reads I.reads I.reads_input) (choice style.entry.config.now style.entry.is_colored) (writer O.takes O.flushes O.uncreated))
+        × PrintsEach (series (Reads I.reads I.reads_input) (style_choice style.entry) (writer O.takes O.flushes O.uncreated))
         inputs.old out (map (λ f. f.now) files.now) failures inputs.new result.1
         × Reports E.sends err.old failures err.new × (result.0 ≡ status_of failures) }
 {
@@ -119,7 +123,7 @@ fn print_file<I: Inputs, O: Output>(
     file: &str,
     out: O,
 ) -> (Ended, O)
-    ensures { EndsAs (printing (between (Reads I.reads I.reads_input) inputs.old inputs.new) (choice style.entry.config.now style.entry.is_colored)
+    ensures { EndsAs (printing (between (Reads I.reads I.reads_input) inputs.old inputs.new) (style_choice style.entry)
         (writer O.takes O.flushes O.uncreated)) out file.now result.0 result.1 }
 {
     match read(inputs, file) {
@@ -143,18 +147,18 @@ fn read<I: Inputs>(inputs: &mut I, file: &str) -> io::Result<Vec<u8>>
 
 /// Prints a module, and returns the writer.
 fn print_module<O: Output>(alloc: Global, style: Style<'_>, wasm: &[u8], out: O) -> (Ended, O)
-    ensures { EndsAs (printing (Returns wasm.now) (choice style.entry.config.now style.entry.is_colored) (writer O.takes O.flushes O.uncreated)) out [] result.0 result.1 }
+    ensures { EndsAs (printing (Returns wasm.now) (style_choice style.entry) (writer O.takes O.flushes O.uncreated)) out [] result.0 result.1 }
 {
-    if style.is_colored {
-        print_colored(alloc, style.config, wasm, out)
-    } else {
-        print_plain(alloc, style.config, wasm, out)
+    match style.form {
+        Form::Plain => print_plain(alloc, style.options.config, wasm, out),
+        Form::InColors => print_colored(alloc, style.options.config, wasm, out),
+        Form::Part(part) => print_part(alloc, style.options, wasm, part, out),
     }
 }
 
 /// Prints a module without ANSI escape sequences, while its text is made. Returns the writer.
 fn print_plain<O: Output>(alloc: Global, config: &Config, wasm: &[u8], out: O) -> (Ended, O)
-    ensures { EndsAs (printing (Returns wasm.now) (choice config.now false) (writer O.takes O.flushes O.uncreated)) out [] result.0 result.1 }
+    ensures { EndsAs (printing (Returns wasm.now) (choice config.now Plain) (writer O.takes O.flushes O.uncreated)) out [] result.0 result.1 }
 {
     let mut printer = PrintOutput(out);
     let printed = config.print(alloc, wasm, &mut printer);
@@ -163,7 +167,7 @@ fn print_plain<O: Output>(alloc: Global, config: &Config, wasm: &[u8], out: O) -
 
 /// Prints a module with ANSI escape sequences. The text is complete before it is written. Returns the writer.
 fn print_colored<O: Output>(alloc: Global, config: &Config, wasm: &[u8], out: O) -> (Ended, O)
-    ensures { EndsAs (printing (Returns wasm.now) (choice config.now true) (writer O.takes O.flushes O.uncreated)) out [] result.0 result.1 }
+    ensures { EndsAs (printing (Returns wasm.now) (choice config.now InColors) (writer O.takes O.flushes O.uncreated)) out [] result.0 result.1 }
 {
     let mut out = out;
     match config.print_to_ansi(alloc, wasm) {
@@ -172,6 +176,26 @@ fn print_colored<O: Output>(alloc: Global, config: &Config, wasm: &[u8], out: O)
             Err(error) => (Ended::Unwritten(error), out),
         },
         Err(error) => (Ended::Refused(Cause::Module(error)), out),
+    }
+}
+
+/// Prints a part of a module's text. The part is complete before it is written. Returns the writer.
+fn print_part<O: Output>(
+    alloc: Global,
+    options: TextOptions<'_>,
+    wasm: &[u8],
+    part: Part<'_>,
+    out: O,
+) -> (Ended, O)
+    ensures { EndsAs (printing (Returns wasm.now) (choice options.entry.config.now (PartForm (part_view part.entry))) (writer O.takes O.flushes O.uncreated)) out [] result.0 result.1 }
+{
+    let mut out = out;
+    match text_of_part(alloc, options, wasm, part) {
+        Ok(text) => match out.write_bytes(text.as_bytes()) {
+            Ok(()) => finish(Ok(()), out),
+            Err(error) => (Ended::Unwritten(error), out),
+        },
+        Err(cause) => (Ended::Refused(cause), out),
     }
 }
 

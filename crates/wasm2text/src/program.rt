@@ -3,7 +3,7 @@ ghost use Rattle.std.specs.Prelude.{◌≡◌, ◌⊎◌, List, Some, None, map,
 ghost use Rattle.wasm2text.specs.Messages.{Failure};
 ghost use Rattle.wasm2text.specs.Arguments.{with_input};
 ghost use Rattle.wasm2text.specs.Parsing.{request_read, options_read};
-ghost use Rattle.wasm2text.specs.Outcome.{Serves, Performs, own_text, refusal_line, PrintsToFile, series, choice, Reads, writer, WritesText, Delivers, StaysBehind, Reports, status_of, misuse_status, HasOutcome};
+ghost use Rattle.wasm2text.specs.Outcome.{Serves, Performs, own_text, refusal_line, PrintsToFile, series, style_choice, Reads, writer, WritesText, Delivers, StaysBehind, Reports, status_of, misuse_status, HasOutcome};
 
 use crate::help::{HELP, VERSION};
 use crate::messages::{Messages, report_misuse};
@@ -14,6 +14,7 @@ use crate::printing::{Style, print_files, report_unwritten};
 use crate::request::Request;
 use crate::status::{FAILED, MISUSED, PRINTED};
 use crate::system::{Inputs, Outputs};
+use crate::text_options::TextOptions;
 use std::alloc::{AllocError, Global};
 use std::io;
 use wasmprinter::Config;
@@ -187,7 +188,10 @@ where
             outputs,
             alloc,
             &completed.0,
-            &completed.1,
+            TextOptions {
+                config: &completed.1,
+                synthesizes: completed.0.name_unnamed,
+            },
             shows_colors,
             out,
             err,
@@ -213,7 +217,7 @@ fn print_completed<I, C, F, O, E>(
     outputs: C,
     alloc: Global,
     request: &Request<'_>,
-    config: &Config,
+    options: TextOptions<'_>,
     shows_colors: bool,
     out: O,
     err: &mut E,
@@ -224,7 +228,7 @@ where
     F: Output + Drop,
     O: Output + Drop,
     E: Messages,
-    ensures { config.now ≡ options_read request.now → own_text (request_read request.now) ≡ None → Serves
+    ensures { options.entry.config.now ≡ options_read request.now → own_text (request_read request.now) ≡ None → Serves
         (record {
           reads = I.reads;
           reads_input = I.reads_input;
@@ -249,8 +253,8 @@ where
         }) }
 {
     let style = Style {
-        config,
-        is_colored: request.is_colored(shows_colors),
+        options,
+        form: request.form(shows_colors),
     };
     let files = &request.files;
     match request.output {
@@ -282,7 +286,7 @@ where
     F: Output + Drop,
     E: Messages,
     ensures { (failures : List Failure)
-        × PrintsToFile (Reads I.reads I.reads_input) (choice style.entry.config.now style.entry.is_colored) C.creates C.closes
+        × PrintsToFile (Reads I.reads I.reads_input) (style_choice style.entry) C.creates C.closes
         (writer F.takes F.flushes F.uncreated) path.now inputs.old outputs (map (λ f. f.now) files.now) failures inputs.new result.1
         × Reports E.sends err.old failures err.new × (result.0 ≡ status_of failures) }
 {

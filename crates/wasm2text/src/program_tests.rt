@@ -1,6 +1,8 @@
 //! Runs of the program over files in memory. Expected texts are typed by hand.
 ghost use Rattle.std.specs.Prelude.{⊤};
 
+use crate::excerpt_tests::{HINT, LONG};
+use crate::function_tests::NAMED;
 use crate::help::HELP;
 use crate::output::Output;
 use crate::program::run;
@@ -42,6 +44,9 @@ impl Inputs for Memory {
             "section.wasm" => UNKNOWN_SECTION,
             "component.wasm" => COMPONENT,
             "late.wasm" => LATE,
+            "long.wasm" => LONG,
+            "hint.wasm" => HINT,
+            "named.wasm" => NAMED,
             "locked.wasm" => return Err(io::Error::from(ErrorKind::PermissionDenied)),
             "folder" => return Err(io::Error::from(ErrorKind::IsADirectory)),
             _ => return Err(io::Error::from(ErrorKind::NotFound)),
@@ -102,7 +107,7 @@ fn run_into<O: Output + Drop>(
 }
 
 /// A run: the words, the exit status, and the texts of standard output and standard error.
-type Row = (&'static [&'static str], u8, &'static str, &'static str);
+pub type Row = (&'static [&'static str], u8, &'static str, &'static str);
 
 /// Returns whether the run of a row ends with its status and its texts.
 fn is_row(alloc: Global, row: &Row) -> Result<bool, Fail> {
@@ -116,7 +121,7 @@ fn is_row(alloc: Global, row: &Row) -> Result<bool, Fail> {
 }
 
 /// Returns the number of the first row whose run ends otherwise, or `None` if there is no such row.
-fn first_other_row(alloc: Global, rows: &[Row]) -> Result<Option<usize>, Fail> {
+pub fn first_other_row(alloc: Global, rows: &[Row]) -> Result<Option<usize>, Fail> {
     for (number, row) in rows.iter().enumerate() {
         if !is_row(alloc, row)? {
             return Ok(Some(number));
@@ -412,6 +417,9 @@ const NAMES: &[&str] = &[
     "-f, --fold-instructions ",
     " --indent N ",
     " --color WHEN ",
+    " --at OFFSET ",
+    " --code-offset OFFSET\n",
+    " --func FUNCTION ",
     "-o, --output FILE ",
     "-h, --help ",
     "-V, --version ",

@@ -1,18 +1,21 @@
 //! What the command line asks for.
-ghost use Rattle.std.specs.Prelude.{◌≡◌, IfOk, OnOk, is_none, option_copied};
-ghost use Rattle.wasm2text.specs.Arguments.{Flagged, WrittenTo, IndentedBy, Colored, File, request_of, with_input};
-ghost use Rattle.wasm2text.specs.Outcome.{is_colored};
+ghost use Rattle.std.specs.Prelude.{◌≡◌, IfOk, OnOk, is_none, option_copied, option_map};
+ghost use Rattle.wasm2text.specs.Arguments.{Flagged, WrittenTo, IndentedBy, Colored, Shows, File, request_of, with_input};
+ghost use Rattle.wasm2text.specs.Outcome.{is_colored, form_view, form_of};
 ghost use Rattle.wasm2text.specs.Parsing.{request_read, options_read, Adds};
+ghost use Rattle.wasm2text.specs.Parts.{part_view};
 
+use crate::form::Form;
 use crate::options::{ColorChoice, Flag};
+use crate::part::Part;
 use std::alloc::{AllocError, Global};
 use wasmprinter::Config;
 
 /// The name of standard input as a file.
 pub const STANDARD_INPUT: &str = "-";
 
-/// The text of one space of an indent.
-const SPACE: &str = " ";
+/// The text of one space.
+pub const SPACE: &str = " ";
 
 /// What the command line asks for.
 #[derive(Drop)]
@@ -35,6 +38,8 @@ pub struct Request<'a> {
     pub color: ColorChoice,
     /// The file to which the text is written, or `None` for standard output.
     pub output: Option<&'a str>,
+    /// The part of each text that is written, or `None` for whole texts.
+    pub part: Option<Part<'a>>,
     /// The files with modules, in order.
     pub files: Vec<&'a str>,
 }
@@ -56,6 +61,7 @@ impl<'a> Request<'a> {
             indent: None,
             color: ColorChoice::Auto,
             output: None,
+            part: None,
             files: Vec::new(alloc),
         }
     }
@@ -95,6 +101,13 @@ impl<'a> Request<'a> {
         self.color = color;
     }
 
+    /// Sets the part of each text that is written.
+    pub fn show_part(&mut self, part: Part<'a>)
+        ensures { Adds self.old (Shows (part_view part.entry)) self.new }
+    {
+        self.part = Some(part);
+    }
+
     /// Adds a file.
     pub fn add_file(&mut self, file: &'a str) -> Result<(), AllocError>
         ensures { OnOk result (Adds self.old (File file.now) self.new) }
@@ -130,8 +143,20 @@ impl<'a> Request<'a> {
         Ok(config)
     }
 
+    /// Returns what is written for each module, if standard output shows colors or does not. A part has no colors.
+    pub fn form(&self, shows_colors: bool) -> Form<'a>
+        ensures { form_view result
+            ≡ form_of (option_map part_view self.now.part) (is_colored self.now.color (option_copied self.now.output) shows_colors) }
+    {
+        match self.part {
+            Some(part) => Form::Part(part),
+            None if self.is_colored(shows_colors) => Form::InColors,
+            None => Form::Plain,
+        }
+    }
+
     /// Returns whether the text has ANSI escape sequences, if standard output shows colors or does not.
-    pub fn is_colored(&self, shows_colors: bool) -> bool
+    fn is_colored(&self, shows_colors: bool) -> bool
         ensures { result ≡ is_colored self.now.color (option_copied self.now.output) shows_colors }
     {
         match self.color {

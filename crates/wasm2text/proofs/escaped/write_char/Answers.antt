@@ -1,9 +1,9 @@
 -- A character is written as it is, or the characters of its escape are written.
-use Rattle.std.proofs.Common.{◌≡◌, [], ◌++◌, encode_utf8, encode_utf8_all, refl, sym, ap, ◌∙◌, append-nil, append_assoc, rules}
+use Rattle.std.proofs.Common.{◌≡◌, [], ◌++◌, encode_utf8, encode_utf8_all, sym, ap, ◌∙◌, append_assoc, rules}
 use Rattle.std.specs.Char.Escape.{escape_default}
 use Rattle.std.specs.Char.Iter.{escape_rest}
 use Rattle.std.proofs.Output.{has_written_append, has_written_of_eq, writes_in_calls_nil}
-use Rattle.wasm2text.proofs.Escapes.{encoded_itself, as_escape}
+use Rattle.wasm2text.proofs.Escapes.{encoded_itself}
 use Rattle.wasm2text.proofs.escaped.write_char.Goals as goal
 
 pub returns-then-not-is_escaped : goal.returns-then-not-is_escaped

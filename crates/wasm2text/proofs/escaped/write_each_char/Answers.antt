@@ -1,5 +1,5 @@
 -- The characters so far were written.
-use Rattle.std.proofs.Common.{[], ◌++◌, encode_utf8_all, refl, sym, ap, ◌∙◌, append-nil, rules}
+use Rattle.std.proofs.Common.{[], ◌++◌, encode_utf8_all, sym, ap, ◌∙◌, append-nil, rules}
 use Rattle.std.proofs.Output.{has_written_append, has_written_of_eq, writes_in_calls_nil}
 use Rattle.std.proofs.lemmas.Str.{IsUtf8-past_char}
 use Rattle.wasm2text.specs.Messages.{message_char}

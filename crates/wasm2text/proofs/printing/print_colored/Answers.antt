@@ -1,7 +1,7 @@
 -- The text is written in one write, or the module is refused before.
-use Rattle.std.proofs.Common.{[], true, refl, inl}
+use Rattle.std.proofs.Common.{[], refl, inl}
 use Rattle.wasmprinter.proofs.TextOfFile.{component_error}
-use Rattle.wasm2text.specs.Outcome.{Returns, choice, printing, writer}
+use Rattle.wasm2text.specs.Outcome.{InColors, Returns, choice, printing, writer}
 use Rattle.wasm2text.proofs.Texts.{writes_once, fails_at_once, writes_nothing, ends_written}
 use Rattle.wasm2text.proofs.printing.print_colored.Goals as goal
 
@@ -9,7 +9,7 @@ pub returns-in-Ok-write_bytes : goal.returns-in-Ok-write_bytes
 returns-in-Ok-write_bytes g c =
     let w = writer g.O.Output.takes g.O.Output.flushes g.O.Output.uncreated in
     let wasm = c.args.wasm.now in
-    ends_written (printing (Returns wasm) (choice c.args.config.now true) w) [] wasm c.in-Ok.text.items c.args.out c.write_bytes.new.self
+    ends_written (printing (Returns wasm) (choice c.args.config.now InColors) w) [] wasm c.in-Ok.text.items c.args.out c.write_bytes.new.self
     c.finish.result.1 c.finish.result.0 refl c.in-Ok.ensures.printed
     (writes_once w c.args.out c.in-Ok.text.items c.write_bytes.new.self (rw c.deref.ensures.value at c.in-Ok-write_bytes.ensures))
     c.finish.ensures

@@ -1,7 +1,7 @@
 -- Each file ends in its own way. The failures are reported in the order of the files.
-use Rattle.std.proofs.Common.{◌≡◌, ℕ, List, ◌++◌, map, max, sym, ap₂, ◌∙◌, subst, append_assoc, append-nil}
+use Rattle.std.proofs.Common.{ℕ, List, ◌++◌, map, max, sym, ap₂, ◌∙◌, subst, append_assoc, append-nil}
 use denote.Ref.{Bor}
-use Rattle.wasm2text.specs.Outcome.{Reads, series, choice, writer, PrintsEach}
+use Rattle.wasm2text.specs.Outcome.{Reads, series, style_choice, writer, PrintsEach}
 use Rattle.wasm2text.proofs.Files.{reports_both, status_both, next_file, last_file, all_files}
 use Rattle.wasm2text.proofs.printing.print_files.Goals as goal
 
@@ -9,7 +9,7 @@ pub returns-then-not-goes_on : goal.returns-then-not-goes_on
 returns-then-not-goes_on g c =
     let so_far = c.loop-file.invariant in
     let noted = c.note-last.ensures in
-    let p = series (Reads g.I.Inputs.reads g.I.Inputs.reads_input) (choice c.args.style.config.now c.args.style.is_colored)
+    let p = series (Reads g.I.Inputs.reads g.I.Inputs.reads_input) (style_choice c.args.style)
     (writer g.O.Output.takes g.O.Output.flushes g.O.Output.uncreated) in
     let names : List (List ℕ) = map (λ (f : Bor (List ℕ)). f.now) c.args.files.now in (
       so_far.0 ++ noted.0,
@@ -24,7 +24,7 @@ pub loop-file-preserved : goal.loop-file-preserved
 loop-file-preserved g c =
     let so_far = c.loop-file.invariant in
     let noted = c.note-last.ensures in
-    let p = series (Reads g.I.Inputs.reads g.I.Inputs.reads_input) (choice c.args.style.config.now c.args.style.is_colored)
+    let p = series (Reads g.I.Inputs.reads g.I.Inputs.reads_input) (style_choice c.args.style)
     (writer g.O.Output.takes g.O.Output.flushes g.O.Output.uncreated) in
     let names : List (List ℕ) = map (λ (f : Bor (List ℕ)). f.now) c.args.files.now in (
       so_far.0 ++ noted.0,
@@ -39,7 +39,7 @@ loop-file-preserved g c =
 pub returns : goal.returns
 returns g c =
     let so_far = c.loop-file.invariant in
-    let p = series (Reads g.I.Inputs.reads g.I.Inputs.reads_input) (choice c.args.style.config.now c.args.style.is_colored)
+    let p = series (Reads g.I.Inputs.reads g.I.Inputs.reads_input) (style_choice c.args.style)
     (writer g.O.Output.takes g.O.Output.flushes g.O.Output.uncreated) in
     let names : List (List ℕ) = map (λ (f : Bor (List ℕ)). f.now) c.args.files.now in (
       so_far.0,

@@ -1,5 +1,5 @@
 -- The help or the version is written, or the files are printed.
-use Rattle.std.proofs.Common.{option_copied, refl, sym, ap, ◌∙◌, inl}
+use Rattle.std.proofs.Common.{refl, sym, inl}
 use Rattle.wasm2text.proofs.Runs.{tells}
 use Rattle.wasm2text.proofs.program.perform.Goals as goal
 

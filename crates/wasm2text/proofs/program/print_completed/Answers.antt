@@ -8,7 +8,7 @@ returns-in-None g c e none =
     let printed = c.print_files-status.ensures in
     record {
       failures = printed.0;
-      done = prints_out _ _ _ printed.0 none (ap option_copied c.in-None.is) refl (rw (c.deref.ensures.value, e, c.is_colored.ensures) at printed.1);
+      done = prints_out _ _ _ printed.0 none (ap option_copied c.in-None.is) refl (rw (c.deref.ensures.value, e, c.form.ensures) at printed.1);
       reports = printed.2;
       status = printed.3;
     }
@@ -19,7 +19,7 @@ returns-in-Some g c e none =
     record {
       failures = printed.0;
       done = prints_to _ _ _ printed.0 c.in-Some.path.now none (ap option_copied c.in-Some.is) refl
-          (rw (c.deref-in-Some.ensures.value, e, c.is_colored.ensures) at printed.1);
+          (rw (c.deref-in-Some.ensures.value, e, c.form.ensures) at printed.1);
       reports = printed.2;
       status = printed.3;
     }

@@ -1,5 +1,4 @@
 -- The text was written in one write, and then the writer was flushed.
-use Rattle.std.proofs.Common.{rules, ◌≡◌}
 use Rattle.wasm2text.specs.Outcome.{writer}
 use Rattle.wasm2text.proofs.Texts.{writes_once, ends_flushed}
 use Rattle.wasm2text.proofs.program.write_and_finish.Goals as goal

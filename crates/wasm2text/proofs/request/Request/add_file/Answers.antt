@@ -1,5 +1,5 @@
 -- The file comes after the others.
-use Rattle.std.proofs.Common.{◌≡◌, List, ◌∷◌, [], ◌++◌, map, refl, ap, ◌∙◌}
+use Rattle.std.proofs.Common.{◌≡◌, ◌∷◌, [], ◌++◌, map, refl, ap, ◌∙◌}
 use Rattle.std.proofs.lemmas.List.{map-append}
 use Rattle.wasm2text.specs.Arguments.{File}
 use Rattle.wasm2text.proofs.Requests.{adds}

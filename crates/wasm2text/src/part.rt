@@ -1,0 +1,43 @@
+//! The part of a module's text that is written alone.
+ghost use Rattle.std.specs.Prelude.{IfOk, IfErr, string_bytes};
+ghost use Rattle.wasm2text.specs.Parts.{part_view, IsPartOf, IsPartRefusal};
+
+use crate::cause::Cause;
+use crate::excerpt::excerpt_of;
+use crate::function_ref::FunctionRef;
+use crate::function_text::text_of_function;
+use crate::target::Target;
+use crate::text_options::TextOptions;
+use std::alloc::Global;
+
+/// A part of a module's text.
+#[derive(Clone, Copy)]
+pub enum Part<'a> {
+    /// The excerpt that shows this byte.
+    Excerpt(Target),
+    /// The text of this function.
+    Function(FunctionRef<'a>),
+}
+
+/// Returns a part of a module's text.
+///
+/// # Errors
+///
+/// - `Module`: the module can't be printed, or an allocation failed.
+/// - `NoCode`: the byte is one of the code section, and the module has no code section.
+/// - `NoByte`: the module does not have the byte.
+/// - `NoFunction`: the module does not have the function.
+pub fn text_of_part(
+    alloc: Global,
+    options: TextOptions<'_>,
+    wasm: &[u8],
+    part: Part<'_>,
+) -> Result<String, Cause>
+    ensures shown { IfOk result (λ text. IsPartOf options.entry.config.now wasm.now (part_view part.entry) (string_bytes text)) }
+    ensures refused { IfErr result (IsPartRefusal options.entry.config.now wasm.now (part_view part.entry)) }
+{
+    match part {
+        Part::Excerpt(target) => excerpt_of(alloc, options.config, wasm, target),
+        Part::Function(function) => text_of_function(alloc, options, wasm, function),
+    }
+}
