@@ -578,6 +578,8 @@ cp empty.wasm repository/module.wasm
 cd repository
 echo '*.wasm diff=wasm' >>.gitattributes
 git config diff.wasm.textconv wasm2text
+[ -z "${FILTERED:-}" ] ||
+git config diff.wasm.textconv "f() { wasm2text \"\$1\" | sed 's/ (;[0-9]*;)//'; }; f"
 git add .
 cp "../$1" module.wasm
 git diff --no-color >../difference || exit
@@ -599,6 +601,12 @@ diff --git a/module.wasm b/module.wasm
 END
 : >err
 git_case 0 same.wasm
+rm -rf repository
+sed 's/ (;0;)//' out >without_comments
+mv without_comments out
+export FILTERED=yes
+git_case 0 same.wasm
+unset FILTERED
 rm -rf repository
 : >out
 cat >err <<'END'
