@@ -83,7 +83,7 @@ impl Config {
     /// # Errors
     ///
     /// The errors of [`Config::print_to_string`]. `storage` then begins with its old text, and a prefix of the
-    /// text of the module may follow, as the contract of `print_with_line_starts` states.
+    /// text of the module may follow. Only the contract of [`Config::print_with_line_starts`] states this.
     pub fn offsets_and_lines<'a>(
         &self,
         alloc: Global,
