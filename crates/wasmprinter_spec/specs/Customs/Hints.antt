@@ -12,7 +12,7 @@ pub record Hint : Type 0 where
   pub offset : ℕ
   pub taken : Bool
 
--- The hints of a function.
+-- The hints of a function, by its index: imported functions are counted.
 pub record FunctionHints : Type 0 where
   pub function : ℕ
   pub hints : List (Placed Hint)
@@ -68,7 +68,8 @@ abbrev pub hints_by : Option Custom → List FunctionHints
 hints_by None = []
 hints_by (Some c) = hints_given c.bytes
 
--- The hints of a module: those of its last hint section.
+-- The hints of a module: those of its last hint section, none if there is no such section (`None`) or if its data has an
+-- error. A section with more functions or hints than the greatest numbers has an error.
 abbrev pub hints_of : List CustomEntry → List FunctionHints
 hints_of cs = hints_by (last_named (codes "metadata.code.branch_hint") None cs)
 

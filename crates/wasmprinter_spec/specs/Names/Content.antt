@@ -65,7 +65,8 @@ is_in s outer e = e.subsection == s && e.outer == outer
 abbrev pub entries_in : ℕ → ℕ → List Entry → List Entry
 entries_in s outer entries = filter (is_in s outer) entries
 
--- The name of an item, by all entries of a module. The numbers are the subsection, the function or type (`outer` of
--- `Entry`) and the index.
+-- The name of an item, by all entries of a module: that of its last entry, or `None`. The numbers are the id of the
+-- subsection, the function or type (`outer` of `Entry`; 0 if the item is in neither) and the index. Before the first
+-- entry of the space no name was given (`[]`, `None`).
 abbrev pub name_of : List Entry → ℕ → ℕ → ℕ → Option Named
 name_of entries s outer index = last_name s [] None (entries_in s outer entries) index
