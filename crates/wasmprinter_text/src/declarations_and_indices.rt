@@ -59,8 +59,9 @@ fn write_name<O: Output>(out: &mut O, name: Name<'_>)
     write_given_name(out, name);
 }
 
-/// Writes an identifier without a style of its own. If a name was given that differs from it, a space and the
-/// annotation `(@name "..")` with that name follow.
+/// Writes an identifier without a style of its own. If a name was given that differs from the characters after the
+/// dollar sign, a space and the annotation `(@name "..")` with that name follow. The annotation ends the style of the
+/// text before it.
 #[tactic(auto, unfolding(wasmprinter_spec::specs::Layout::Identifiers::id_and_name_pieces))]
 pub fn write_id_and_name<O: Output>(out: &mut O, identifier: Identifier<'_>)
     ensures { O.wrote out.old out.new (id_and_name_pieces (identifier_view identifier.entry)) }
@@ -137,9 +138,10 @@ pub fn write_index<O: Output>(out: &mut O, identifier: Option<Identifier<'_>>, n
 }
 
 /// Writes the declaration of an item of an index space in the style of names: its identifier with its annotation as
-/// [`write_id_and_name`] does and a space, if it has an identifier, then a comment `(;n;)` with its index. `outer` is
-/// the function of a local or label or the type of a field; it is ignored for items of other spaces. The identifier is
-/// that of [`Identifiers::item`]; it is not checked that the module has such an item.
+/// [`write_id_and_name`] does and a space, if it has an identifier, then a comment `(;n;)` with its index, which has no
+/// style after an annotation. `outer` is the function of a local or label or the type of a field; it is ignored for
+/// items of other spaces. The identifier is that of [`Identifiers::item`]; it is not checked that the module has such
+/// an item.
 pub fn write_declaration_of<O: Output>(
     out: &mut O,
     identifiers: &Identifiers<'_, '_>,
