@@ -27,8 +27,8 @@ before_next (Some n) = before.ClosedGroup
 before_next None = before.Open
 
 module _ (names : Names) (w : List ℕ) where
-  -- The pieces of the first variable of a new group of variables without identifiers, which has the keyword w. Here and
-  -- below, b is the state of the text before the variable.
+  -- The pieces of the first variable of a new group of variables without identifiers. Here and below, w is the keyword
+  -- of a new group, and b the state of the text before the variable.
   abbrev pub first_pieces : Before → ValType → List Piece
   first_pieces b t = front_pieces b ++ (Open w ∷ type_list names (t ∷ []))
 
@@ -37,7 +37,8 @@ module _ (names : Names) (w : List ℕ) where
   unnamed_pieces before.Open t = type_list names (t ∷ [])
   unnamed_pieces b t = first_pieces b t
 
-  -- The pieces of a variable: in a group of its own if it has an identifier, and otherwise in one that stays open.
+  -- The pieces of a variable, with the keyword w of a new group and the state b before it: a group of its own if the
+  -- variable has an identifier, otherwise its type in a group that stays open.
   abbrev pub variable_pieces : Before → Option Named → ValType → List Piece
   variable_pieces b (Some n) t = front_pieces b ++ variables_pieces names w (Alone n t)
   variable_pieces b None t = unnamed_pieces b t

@@ -50,7 +50,7 @@ impl Format {
         }
     }
 
-    /// Returns the greatest exponent, which is that of infinity and of NaN.
+    /// Returns the greatest exponent, as the bits encode it: that of infinity and of NaN.
     pub fn greatest_exponent(self) -> u64
         ensures { result ≡ greatest_exponent (width_of self) }
     {
