@@ -141,7 +141,7 @@ pub fn write_index<O: Output>(out: &mut O, identifier: Option<Identifier<'_>>, n
 /// [`write_id_and_name`] does and a space, if it has an identifier, then a comment `(;n;)` with its index, which has no
 /// style after an annotation. `outer` is the function of a local or label or the type of a field; it is ignored for
 /// items of other spaces. The identifier is that of [`Identifiers::item`]; it is not checked that the module has such
-/// an item.
+/// an item. For labels see [`write_index_of`].
 pub fn write_declaration_of<O: Output>(
     out: &mut O,
     identifiers: &Identifiers<'_, '_>,
@@ -158,8 +158,8 @@ pub fn write_declaration_of<O: Output>(
 /// Writes an index into an index space in the style of names: the identifier of the item ([`Identifiers::item`]) or, if
 /// it has none, the number in decimal. `outer` is the function of a local or label or the type of a field; it is
 /// ignored for other spaces. The index may refer to nothing: it is not checked that the module has such an item. The
-/// number of a label counts the blocks of the function as they open; the labels in operators are written by other
-/// functions.
+/// number of a label counts the blocks of the function as they open, also in a synthesized identifier. The labels in
+/// operators are written by other functions; synthesized, they have the number of blocks around theirs.
 pub fn write_index_of<O: Output>(
     out: &mut O,
     identifiers: &Identifiers<'_, '_>,
