@@ -13,7 +13,7 @@ ghost use Rattle.wasmprinter_laws.specs.TreeLaws.{FoldedModulesHaveTrees};
 
 /// An operator that needs `n` operands, with `n` above 0, takes the shortest run of last nodes before it whose
 /// results sum up to exactly `n`. It takes none if the first sum that reaches `n` is greater than `n`, or if all
-/// nodes together have fewer than `n` results. The sums saturate.
+/// nodes together have fewer than `n` results. The sums saturate at 2^32 - 1.
 pub fn operands_are_the_shortest_run()
     ensures { OperandRule }
 {}
