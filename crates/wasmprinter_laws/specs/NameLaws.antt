@@ -53,8 +53,8 @@ BytesGiveEntries = (at : Input) (entries : List Entry) → AreBytes at.bytes →
 
 -- ---- identifiers
 
--- No identifier means two items of one space, whether identifiers are synthesized for items without names or not.
--- Labels may share one if they were given the same name (`AreApart`).
+-- No identifier means two items of one space, whether identifiers are synthesized for items without names or not. Two
+-- labels of which one may be nested in the other share an identifier only if they were given the same name.
 abbrev pub IdentifiersAreApart : Type 0
 IdentifiersAreApart = (synthesizes : Bool) (entries : List Entry) → AreEntries entries → AreApart (names_of synthesizes entries)
 
@@ -64,7 +64,7 @@ abbrev pub IdentifiersAreNamed : Type 0
 IdentifiersAreNamed = (synthesizes : Bool) (entries : List Entry) → AreEntries entries → AreNamed (names_of synthesizes entries)
 
 -- The identifiers of each module that bytes encode are UTF-8 and not empty, and none means two items of one space, of
--- one function or of one type. Labels may share one if they were given the same name (`AreApart`).
+-- one function or of one type. Labels are as in `IdentifiersAreApart`.
 abbrev pub ModulesHaveIdentifiers : Type 0
 ModulesHaveIdentifiers = (bytes : List ℕ) (m : PlacedModule) (synthesizes : Bool) → Spells bytes m →
     AreApart (module_names synthesizes m) × AreNamed (module_names synthesizes m)

@@ -43,7 +43,7 @@ pub fn folding_loses_nothing()
 
 /// A list of operators has a folded layout if it is well nested and no operator is `try`, `catch`, `catch_all` or
 /// `delegate` (`folded`), and only then (`only`). This holds for any options, names, hints, and types of the items that
-/// the operators name.
+/// the operators name, with colors in the text or without.
 pub fn nested_operators_are_folded()
     ensures folded { (s : Setting) (signatures : Signatures) → NestedListsAreFolded s signatures }
     ensures only { (s : Setting) (signatures : Signatures) → FoldedListsAreNested s signatures }

@@ -130,7 +130,8 @@ folded_list f own s hs os = if_folded (folded_pieces defaults f.color s (f.signa
 
 -- ---- Laws
 
--- A list is folded if it is well nested and has none of `try`, `catch`, `catch_all` and `delegate`.
+-- A list is folded, with colors in its text or without, if it is well nested and has none of `try`, `catch`,
+-- `catch_all` and `delegate`.
 abbrev pub NestedListsAreFolded : Setting → Signatures → Type 0
 NestedListsAreFolded s signatures =
     (o : Options) (color : Bool) (hs : List (Placed Hint)) (os : List (Placed Operator))
