@@ -77,8 +77,8 @@ fn put_held<'a>(tasks: &mut Vec<Task<'a>>, held: &'a [Node], depth: u64) -> Resu
 
 /// Pushes the tasks for the rest of a task whose front is written. The stack then stands for the rest of the task,
 /// followed by the tasks below it (`pieces`), and takes fewer steps than with the whole task (`steps`). A task is sound
-/// if its texts are in the buffer and its nodes are well formed. The given task must be sound, with the sum of depth and
-/// number of its nodes below 2^64. If all tasks on the stack are sound, they are so afterwards (`sound`).
+/// if its texts are in the buffer and its nodes are well formed. The given task must be sound, with the sum of depth
+/// and number of its nodes below 2^64. If all tasks on the stack are sound, they are so afterwards (`sound`).
 ///
 /// # Errors
 ///
