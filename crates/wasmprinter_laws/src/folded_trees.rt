@@ -13,7 +13,7 @@ ghost use Rattle.wasmprinter_laws.specs.TreeLaws.{FoldedModulesHaveTrees};
 
 /// An operator that needs `n` operands, with `n` above 0, takes the shortest run of last nodes before it whose
 /// results sum up to exactly `n`. It takes none if the first sum that reaches `n` is greater than `n`, or if all
-/// nodes together have fewer than `n` results. The sums saturate.
+/// nodes together have fewer than `n` results. The sums saturate at 2^32 - 1.
 pub fn operands_are_the_shortest_run()
     ensures { OperandRule }
 {}
@@ -43,7 +43,7 @@ pub fn folding_loses_nothing()
 
 /// A list of operators has a folded layout if it is well nested and no operator is `try`, `catch`, `catch_all` or
 /// `delegate` (`folded`), and only then (`only`). This holds for any options, names, hints, and types of the items that
-/// the operators name.
+/// the operators name, with colors in the text or without.
 pub fn nested_operators_are_folded()
     ensures folded { (s : Setting) (signatures : Signatures) → NestedListsAreFolded s signatures }
     ensures only { (s : Setting) (signatures : Signatures) → FoldedListsAreNested s signatures }

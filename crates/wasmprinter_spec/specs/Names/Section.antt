@@ -54,8 +54,8 @@ is_indirect s = s == local_subsection || s == label_subsection || s == field_sub
 
 -- ---- Entries
 
--- A name that a subsection gives for an index. `outer` is the function of a local or a label, the type of a field,
--- and otherwise 0.
+-- A name that a subsection (its id) gives for an index. `outer` is the index of the function of a local or a label, or
+-- of the type of a field, in which `index` then counts; otherwise it is 0. For the module, `index` is 0 too.
 pub record Entry : Type 0 where
   pub subsection : ℕ
   pub outer : ℕ
