@@ -5,7 +5,7 @@ use Rattle.wasmprinter_spec.specs.Labels.{Named}
 use Rattle.wasmprinter_spec.specs.LabelNames.{is_clean}
 use Rattle.wasmprinter_spec.specs.Names.Section.{Entry, module_subsection, function_subsection, local_subsection, label_subsection, type_subsection, table_subsection, memory_subsection, global_subsection, elem_subsection, data_subsection, field_subsection}
 
--- The word for the items that a subsection names.
+-- The word for the items that a subsection names, by the id of the subsection.
 abbrev pub group_of : ℕ → List ℕ
 group_of s =
     if s == module_subsection then codes "module"
