@@ -42,9 +42,9 @@ fn synthesized_identifier<'n>(
 impl<'n> Identifiers<'n, '_> {
     /// Returns the identifier of an item: that of its name or, if it has none and identifiers are synthesized, a
     /// synthesized one with `number`, and otherwise `None`. `number` is the item's index or, for a label,
-    /// [`LabelName::number`](crate::LabelName::number). (In a text, the synthesized identifier of a label has the number
-    /// of blocks around it instead.) `outer` is the index of the function of a local or label (imports counted) or of
-    /// the type of a field; for other items it is ignored.
+    /// [`LabelName::number`](crate::LabelName::number). (In a text, the synthesized identifier of a label has the
+    /// number of blocks around it instead.) `outer` is the index of the function of a local or label (imports counted)
+    /// or of the type of a field; for other items it is ignored.
     pub fn item(&self, space: Space, outer: u64, number: u64) -> Option<Identifier<'n>>
         ensures { option_map identifier_view result
             ≡ name_in self.now.synthesizes (name_at self.now.names.now) (id_of space) (outer_of space outer) number }
