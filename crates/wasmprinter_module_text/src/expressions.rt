@@ -71,9 +71,9 @@ fn write_nested<O: FoldingOutput>(
     );
 }
 
-/// Writes a constant expression in a field: flat, or folded as
-/// [`write_flat_or_folded`] does. A line begins in it only if the text of a node without children contains `;;`; this
-/// is where nesting depth 2 matters. `scope` is working memory and means the same afterwards.
+/// Writes a constant expression in a field, flat or folded, as [`write_flat_or_folded`] does. A line begins in it only
+/// if the text of a node without children contains `;;`. Only then its nesting depth, 2, matters. `scope` is working
+/// memory and means the same afterwards.
 pub fn write_constant<O: FoldingOutput>(
     out: &mut O,
     scope: &mut Scope<'_, '_>,

@@ -9,8 +9,8 @@ pub data FramePart : Type 0 where
   Sequence : FramePart
   Handlers : FramePart
 
--- The roles are well nested: block .. end, if .. end, if .. else .. end, try .. (catch ..)* (catch_all ..)? end,
--- try .. delegate.
+-- The roles are well nested, as a whole sequence of operators (`Sequence`) or as the handlers of a `try` (`Handlers`):
+-- block .. end, if .. end, if .. else .. end, try .. (catch ..)* (catch_all ..)? end, try .. delegate.
 pub data Nests : FramePart → List Role → Type 0 where
   none : Nests Sequence []
   plain : {rest : List Role} → Nests Sequence rest → Nests Sequence (Plain ∷ rest)

@@ -65,7 +65,8 @@ is_in s outer e = e.subsection == s && e.outer == outer
 abbrev pub entries_in : ℕ → ℕ → List Entry → List Entry
 entries_in s outer entries = filter (is_in s outer) entries
 
--- The name of an item, by all entries of a module. The numbers are the subsection, the function or type (`outer` of
+-- The name of an item, by all entries of a module: the last entry for the item gives it, and those before this entry in
+-- its space say which names were given before. The numbers are the subsection, the function or type (`outer` of
 -- `Entry`) and the index.
 abbrev pub name_of : List Entry → ℕ → ℕ → ℕ → Option Named
 name_of entries s outer index = last_name s [] None (entries_in s outer entries) index
