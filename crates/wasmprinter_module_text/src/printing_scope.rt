@@ -91,7 +91,8 @@ pub fn write_index_in<O: Output>(out: &mut O, scope: &Scope<'_, '_>, space: Spac
     write_index_of(out, &scope.identifiers(), space, 0, u64::from(index));
 }
 
-/// Writes a group of a keyword and an index of an item of the module.
+/// Writes a group within one line: the keyword, a space and the index of an item of the module as [`write_index_in`]
+/// writes it.
 pub fn write_index_group_in<O: Output>(
     out: &mut O,
     scope: &Scope<'_, '_>,
