@@ -28,8 +28,8 @@ unfoldable pub identifier_space_pieces : Option Named → List Piece
 identifier_space_pieces None = []
 identifier_space_pieces (Some n) = Identifier (chars n.content) ∷ (OneSpace ∷ [])
 
--- The declaration of an item in the style of names, which an annotation ends: its identifier, if it has one, and its
--- index i in a comment.
+-- The declaration of the item with index i, in the style of names, which an annotation ends: the identifier, if it has
+-- one, the annotation with the given name, if this is not the identifier, and the comment `(;i;)`.
 unfoldable pub declaration_pieces : Option Named → ℕ → List Piece
 declaration_pieces n i = BeginName ∷ (id_and_name_space_pieces n ++ (IndexComment i ∷ (EndStyle ∷ [])))
 

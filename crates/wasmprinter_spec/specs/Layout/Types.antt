@@ -92,7 +92,7 @@ module _ (names : Names) where
   unfoldable pub sub_pieces : ℕ → SubType → List Piece
   sub_pieces i t = sub_pieces_by i t.final t.supertypes t.composite
 
-  -- A type in a group `type`: its declaration with its index i, a space, and its subtype.
+  -- The type with index i in a group `type`: its declaration, a space, and its subtype.
   unfoldable pub type_pieces : ℕ → SubType → List Piece
   type_pieces i t = line_group_space (codes "type") (declaration_pieces (names.items Types i) i ++ (OneSpace ∷ sub_pieces i t))
 
@@ -113,7 +113,7 @@ module _ (names : Names) where
   unfoldable pub type_group_pieces : ℕ → Placed TypeGroup → List Piece
   type_group_pieces i g = Break (Some g.place) 1 ∷ group_pieces_by g.value.explicit g.place i g.value.types
 
-  -- Groups. Type indices run across all of them.
+  -- Groups. Type indices run across all of them; the first type has the index i.
   unfoldable pub type_section_pieces : ℕ → List (Placed TypeGroup) → List Piece
   type_section_pieces i [] = []
   type_section_pieces i (g ∷ gs) = type_group_pieces i g ++ type_section_pieces (i + length g.value.types) gs
