@@ -150,7 +150,7 @@ pub fn operands_cut(row: &[Candidate], end: usize, operands: u32, results: u32) 
 }
 
 /// Returns where the predicate of an `if` begins: the last node of a row `f`, if there is one, after the others
-/// (`front f`). Otherwise returns the end of the row. `end` is the number of all nodes.
+/// (`front f`). Otherwise returns the end of the row. `end` is the index after the last node.
 pub fn predicate_of(row: &[Candidate], end: usize) -> Cut
     requires { (first : ℕ) × (f : NodesOf NodeText) × IsEndOf row.now end first f }
     ensures { (first : ℕ) (f : NodesOf NodeText) → IsEndOf row.now end first f → IsCut first (front f) result }
