@@ -28,7 +28,7 @@ pub record Writes (W : Type 0) : Type 1 where
   -- The state after the run.
   pub new : W
 
--- The sink with these writes and states.
+-- The sink with these possible results of a write, and with these states before and after the run.
 abbrev pub writes : {W : Type 0} → TextWrite W → W → W → Writes W
 writes takes old new = record { takes = takes; old = old; new = new }
 
@@ -110,11 +110,13 @@ pub record System (W V : Type 0) : Type 1 where
   -- The error output.
   pub err : Writes V
 
--- The system with these parts. The order is that of the fields.
+-- The system with these parts, in the order of the fields: results of reading each file, texts of errors, output, error
+-- output.
 abbrev pub system : {W V : Type 0} → (List ℕ → Reading) → Rendering Error → Writes W → Writes V → System W V
 system may_read renders out err = record { may_read = may_read; renders = renders; out = out; err = err }
 
--- The outcome of a run with these words.
+-- The outcome of a run with these words. The statuses are 0 (`printed_status`), 1 (`refused_status`) and 2
+-- (`misused_status`). The output and the error output are `s.out` and `s.err`.
 pub record HasOutcome {W V : Type 0} (s : System W V) (words : List (List ℕ)) (status : ℕ) : Type 0 where
   -- The status is `misused_status` if and only if the words do not name one file or contain an unknown option.
   pub usage : (status ≡ misused_status) ↔ (named_file words ≡ None)
@@ -136,17 +138,21 @@ pub record HasOutcome {W V : Type 0} (s : System W V) (words : List (List ℕ)) 
       × FailsToWrite (choice_of words) (s.may_read file) s.out error
       × ReportsError s.err s.renders error
 
--- The arguments were read as words, and the run with these words has its outcome.
+-- The arguments were read as words, and the run with these words has its outcome. The order is: what `next` of the
+-- iterator may return, the arguments, what the run reads and writes, the status.
 abbrev pub RunsWithWords : {I A W V : Type 0} → (I → Option (String A) → I → Type 0) → Result I IoError → System W V → ℕ → Type 0
 RunsWithWords next_gives args s status = (words : List (List ℕ)) × AreWordsOf next_gives args words × HasOutcome s words status
 
--- The words can't be read. The error was reported, the output is unchanged, and the status is `refused_status`. The
--- order is: the error, the texts that it may have, the output, the error output, the status.
+-- The words can't be read. A line that reports the error was written to the error output in one write, whatever the
+-- result, the output is unchanged, and the status is 1 (`refused_status`). The order is: the error, the texts that an
+-- error may have, the output, the error output, the status.
 abbrev pub RefusesArguments : {W V : Type 0} → IoError → Rendering WordsError → Writes W → Writes V → ℕ → Type 0
 RefusesArguments error renders out err status =
     ReportsError err renders (words_error error) × IsUnchanged out × (status ≡ refused_status)
 
--- The arguments can't be read as words, for an error that was reported. The order is that of `RefusesArguments`.
+-- The arguments can't be read as words, for an error with `RefusesArguments`: it was reported on the error output, the
+-- output is unchanged, and the status is 1. The order is: the arguments, the texts that an error may have, the output,
+-- the error output, the status.
 abbrev pub RefusesToRead : {I W V : Type 0} → Result I IoError → Rendering WordsError → Writes W → Writes V → ℕ → Type 0
 RefusesToRead args renders out err status =
     (error : IoError) × CannotReadWords args error × RefusesArguments error renders out err status

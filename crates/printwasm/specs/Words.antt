@@ -65,7 +65,8 @@ choice_of words = record {
   colored = has words color_option;
 }
 
--- All items of the iterator in order, except the first, which is the program's name.
+-- `args` is `Ok` of an iterator, and the words are all items that it returns before the first `None`, in order, except
+-- the first item, which is the program's name (`drop 1`). There are no words if there is no item.
 abbrev pub AreWordsOf : {I A : Type 0} → (I → Option (String A) → I → Type 0) → Result I IoError → List (List ℕ) → Type 0
 AreWordsOf next_gives args words = IsOkAnd args (λ all. WholeRun next_gives all (λ p. words ≡ map string_bytes (drop 1 p.items)))
 

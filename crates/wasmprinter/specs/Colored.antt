@@ -15,11 +15,11 @@ pub record HasColoredTextBy (o : Options) (bytes text : List ℕ) : Type 0 where
   pub decoded : Decoded bytes
   -- It can be folded if folding is on.
   pub foldable : IsFoldable o decoded.placed
-  -- No `dylink.0` section of it is refused.
+  -- The layout is complete: no `dylink.0` section is refused for an unknown subsection.
   pub accepted : refusal (with_color o true) no_claims decoded.placed ≡ None
   -- The text is that of the layout with the sequences of each style, including those within the text of folded
-  -- operators.
+  -- operators (`true`).
   pub is : text ≡ colored_text (layout (with_color o true) no_claims decoded.placed)
-  -- With an indent of spaces and tabs: the text without the sequences is the text of a module that the
-  -- bytes encode, without colors.
+  -- With an indent of spaces and tabs: deleting the sequences gives the text without colors, with all that `IsTextOf`
+  -- says of it.
   pub bare : IsBlank o.indent → IsTextOf o bytes (uncolor text)

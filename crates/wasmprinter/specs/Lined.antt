@@ -25,12 +25,14 @@ pub record HasLinesBy (o : Options) (bytes old storage : List ℕ) (lines : List
   -- The lines, joined, are the text.
   pub joined : joined_lines lines ≡ text
   -- Without `skeleton` and folding, each defined function has a line for its header, one for its locals if it has any,
-  -- and one for each of its operators.
+  -- and one for each of its operators except the last `end`, in this order and with only lines of branch hints between.
+  -- Each is the only line with its place.
   pub functions : o.skeleton ≡ false → o.folds ≡ false → (i : ℕ) (f : PlacedFunction) → slice_get printed.decoded.placed.functions i ≡ Some f →
       HasFunctionLines (hint_places printed.decoded.placed) (line_places lines) f
 
--- `HasLinesBy` for the lines that begin at these offsets of the storage. The order is: options, bytes of the module,
--- text before, text after, starts of lines.
+-- The storage is the old text followed by the text of the module that the bytes encode, and the lines that begin at
+-- these offsets of the storage are those of the text (`HasLinesBy`). The order is: options, bytes of the module, text
+-- before, text after, starts of lines.
 abbrev pub HasLinesAt : Options → List ℕ → List ℕ → List ℕ → List LineStart → Type 0
 HasLinesAt o bytes old storage starts = HasLinesBy o bytes old storage (lines_at_starts starts storage)
 

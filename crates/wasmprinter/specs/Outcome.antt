@@ -178,9 +178,14 @@ IsSoundRefusal o bytes e =
 
 -- Printing these bytes with these options is refused with this error, after this change of the printer.
 pub record IsPrintRefusal {P : Type 0} (printer : Change P) (o : Options) (bytes : List ℕ) (e : Error) : Type 0 where
-  -- The error is true of the bytes, whether they encode a module or not.
+  -- The error is true of the bytes, whether they encode a module or not: an error of decoding has its reason, as `decode`
+  -- lists it. Any other error, also `Memory` of folding, is returned only if the bytes encode a module within the limits;
+  -- for `FoldLegacy`, `FoldHint` and `DylinkSubsection` it has such an operator, hint or section.
   pub true_of : IsSoundRefusal o bytes e
-  -- If the bytes encode a module, the error has a listed cause.
+  -- If the bytes encode a module: for a limit or folding, the first such function, table, operator or hint is at the
+  -- place, or the number of functions is the count. For `DylinkSubsection`, the last call, apart from empty texts, asked
+  -- for the claim of that section, which the printer does not claim. For `Printer`, a call failed with this error.
+  -- `Memory` is possible only if the module has an item or custom section, or operators are folded.
   pub caused : HasListedCause printer o bytes e
 
 -- The reasons for text that is built in memory: an allocation fails in the decoder, or the bytes encode a module
@@ -193,11 +198,15 @@ text_reasons bytes decoding = record decoding { memory = decoding.memory ⊎ Dec
 abbrev pub IsSoundTextRefusal : Options → List ℕ → Error → Type 0
 IsSoundTextRefusal o bytes e = HasPrintReason (bytes_reasons o bytes (λ x. ⊥)) (text_reasons bytes (module_reasons bytes (IsComponent bytes))) e
 
--- `IsPrintRefusal` for text that is built in memory.
+-- `IsPrintRefusal` for text that is built in memory: no custom section is claimed, and `Printer` is not returned.
 pub record IsTextRefusal (o : Options) (bytes : List ℕ) (e : Error) : Type 0 where
-  -- The error is true of the bytes, whether they encode a module or not.
+  -- The error is true of the bytes, whether they encode a module or not: an error of decoding has its reason, as `decode`
+  -- lists it. `FoldLegacy`, `FoldHint` and `DylinkSubsection` are returned only if the bytes encode a module within the
+  -- limits that has such an operator, hint or section. `Memory` is also possible for every module within the limits.
   pub true_of : IsSoundTextRefusal o bytes e
-  -- If the bytes encode a module, the error has a listed cause.
+  -- If the bytes encode a module: for a limit or folding, the first such function, table, operator or hint is at the
+  -- place, or the number of functions is the count. For `DylinkSubsection`, the first refused section has this id.
+  -- `Memory` is possible for every module.
   pub caused : HasListedTextCause o bytes e
 
 -- A module that the bytes encode was being printed, and `Left` describes the state.

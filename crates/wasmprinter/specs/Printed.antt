@@ -27,11 +27,11 @@ no_claims = λ n. false
 pub record Printed {P : Type 0} (printer : Change P) (colors : Bool) (o : Options) (bytes : List ℕ) : Type 0 where
   -- The module that the bytes encode.
   pub decoded : Decoded bytes
-  -- The printer's answer to the claim of each custom section.
+  -- The printer's answer to the claim of each custom section, by its number among them, from 0.
   pub answers : Answers
   -- The module can be folded if folding is on.
   pub foldable : IsFoldable o decoded.placed
-  -- No `dylink.0` section of it is refused.
+  -- The layout is complete: no `dylink.0` section that the printer does not claim is refused for an unknown subsection.
   pub accepted : refusal (with_color o colors) answers decoded.placed ≡ None
   -- The calls that were made.
   pub calls : List Call
@@ -63,7 +63,7 @@ pub record IsTextOf (o : Options) (bytes text : List ℕ) : Type 0 where
   pub decoded : Decoded bytes
   -- It can be folded if folding is on.
   pub foldable : IsFoldable o decoded.placed
-  -- No `dylink.0` section of it is refused.
+  -- The layout is complete: no `dylink.0` section is refused for an unknown subsection.
   pub accepted : refusal (with_color o false) no_claims decoded.placed ≡ None
   -- The text is that of the layout.
   pub is : text ≡ text_of (layout (with_color o false) no_claims decoded.placed)
@@ -80,7 +80,7 @@ pub record IsTextOf (o : Options) (bytes text : List ℕ) : Type 0 where
 pub record HasText (bytes text : List ℕ) : Type 0 where
   -- The module that the bytes encode.
   pub decoded : Decoded bytes
-  -- No `dylink.0` section of it is refused.
+  -- The layout is complete: no `dylink.0` section is refused for an unknown subsection.
   pub accepted : refusal defaults no_claims decoded.placed ≡ None
   -- The text is that of the layout.
   pub is : text ≡ text_of (layout defaults no_claims decoded.placed)

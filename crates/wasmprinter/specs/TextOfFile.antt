@@ -12,7 +12,7 @@ use Rattle.wasmprinter.specs.Outcome.{IsTextRefusal}
 abbrev pub Reading : Type 1
 Reading = Option (List ℕ) → Type 0
 
--- Reading may return bytes that encode a module with this text.
+-- Reading may return bytes that encode a module with this text, with the default options (`HasText`).
 abbrev pub IsTextOfFile : Reading → List ℕ → Type 0
 IsTextOfFile may_read text = (wasm : List ℕ) × may_read (Some wasm) × HasText wasm text
 

@@ -194,7 +194,8 @@ impl Config {
     /// - `EmptyTableInit`: the initialiser of a table has no operators.
     /// - `FoldLegacy`, only if operators are folded: a `try`, `catch`, `catch_all` or `delegate` can't be folded.
     /// - `FoldHint`, only if operators are folded: a branch hint can't be folded.
-    /// - `Memory`: an allocation failed during decoding or while the names were collected.
+    /// - `Memory`: an allocation failed during decoding or while the names were collected. As in [`decode`], this needs
+    ///   a section of items with a count above zero, or a custom section.
     ///
     /// The printer receives a prefix of the text before these errors:
     ///

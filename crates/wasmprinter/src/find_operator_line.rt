@@ -11,8 +11,8 @@ use wasmprinter_ops::expression::OperatorsReader;
 /// the start of the module.
 ///
 /// `function` counts from 0 the functions that the module defines, without imports. `operator` counts from 0 the
-/// operators that `Body::operators` returns. The returned line begins with the operator's place (`at`). If several
-/// lines do, it is the first of them (`exact`).
+/// operators that `Body::operators` returns, so not the last `end`. The returned line begins with the operator's place
+/// (`at`). If several lines do, it is the first of them (`exact`).
 ///
 /// Returns `None` if the function or the operator does not exist, or if no line begins with the operator's place
 /// (`exact`). Every operator is found in the complete lines that `Config::offsets_and_lines` returned for this module,

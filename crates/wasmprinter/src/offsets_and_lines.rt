@@ -25,8 +25,8 @@ impl Config {
     ///
     /// If `skeleton` and folding are off, each defined function has a line for its header, one for its locals, if it has
     /// any, and one for each of its operators except the last `end`, in this order (`lines`). Their places are the first
-    /// bytes of the body, of the first entry that declares a local, and of the operator. No other line has one of these
-    /// places. Only lines of branch hints come between.
+    /// bytes of the body after its size, of the first entry that declares a local, and of the operator. No other line
+    /// has one of these places. Only lines of branch hints come between.
     ///
     /// Unlike the contract of [`Config::offsets_and_lines`], the contract of this method says what `storage` holds
     /// after an error.
@@ -68,7 +68,8 @@ impl Config {
     /// The place of a line is a byte offset from the start of the module, or `None` if the line shows nothing of
     /// the module. Each line ends with its line feed. The old text of `storage` stays before the first line and is
     /// part of no line. The lines, joined, are the text that [`Config::print_to_string`] returns. The lines of
-    /// functions are as in [`Config::print_with_line_starts`].
+    /// functions are as in [`Config::print_with_line_starts`]. In contracts, the iterator `it` is the text that
+    /// `storage` then holds (`it.storage`) and the lines that it will return (`it.lines`), here all.
     ///
     /// With a module `IDENTITY` whose only function returns its parameter:
     ///
@@ -82,7 +83,7 @@ impl Config {
     /// # Errors
     ///
     /// The errors of [`Config::print_to_string`]. `storage` then begins with its old text, and a prefix of the
-    /// text of the module may follow, as the contract of `print_with_line_starts` states.
+    /// text of the module may follow. Only the contract of [`Config::print_with_line_starts`] states this.
     pub fn offsets_and_lines<'a>(
         &self,
         alloc: Global,

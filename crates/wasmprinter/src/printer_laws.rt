@@ -15,6 +15,9 @@ use std::io::Write;
 /// sequences from what the first writer gains gives what the second writer gains. The indent consists of spaces and
 /// tabs. The law says nothing of a writer that doesn't specify, before printing, the bytes that it holds. Operators may
 /// be folded or flat.
+///
+/// In the clause, `o` are the options and `bytes` those of the module. The first printer has the state `s` before
+/// printing and `t` after it, the second `x` and `y`. `.0.inner` is the writer in a state.
 pub fn colors_add_sequences_alone<V: Write, W: Write>()
     ensures { (o : _) (bytes : List ℕ) → IsBlank o.indent → (s t : _) (x y : _)
         → Printed (change ⟦<PrintTermcolor<Ansi<V>> as Print>⟧.meaning s t) (⟦<PrintTermcolor<Ansi<V>> as Print>⟧.colors s) o bytes
@@ -23,7 +26,8 @@ pub fn colors_add_sequences_alone<V: Write, W: Write>()
 {}
 
 /// For any function `view` from a `PrintText` to bytes: if each write that succeeds appends its bytes to the view, then
-/// printing that succeeds appends the module's text to the view.
+/// printing that succeeds appends the module's text to the view. In the clause, `o` are the options, `bytes` those of
+/// the module, and `s` and `t` the states of the printer before and after printing.
 pub fn text_printers_gain_the_text<T: PrintText>()
     ensures { (view : T → List ℕ) → Grows view T.writes → (o : _) (bytes : List ℕ) (s t : T)
         → Printed (change ⟦<T as Print>⟧.meaning s t) (⟦<T as Print>⟧.colors s) o bytes

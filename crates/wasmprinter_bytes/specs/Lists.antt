@@ -11,7 +11,7 @@ use Rattle.wasmprinter_bytes.specs.Reasons.{Reasons, HasReason}
 abbrev pub count_and_items_at : {A : Type 0} → (Input → Option (A × Input)) → Input → Option ((ℕ × List A) × Input)
 count_and_items_at parse at = u32.parse at >>= λ (count, mid). items_at parse count mid >>= λ (xs, after). Some ((count, xs), after)
 
--- The values without their count: `(vec g).parse` is `vec_at g.parse`.
+-- Reads a count and that many values, and gives the values without the count: `(vec g).parse` is `vec_at g.parse`.
 abbrev pub vec_at : {A : Type 0} → (Input → Option (A × Input)) → Input → Option (List A × Input)
 vec_at parse at = count_and_items_at parse at >>= λ ((count, xs), after). Some (xs, after)
 
@@ -62,7 +62,8 @@ ReadsOrFails view by old (Err e) new = HasReason (reader_reasons (by.parse old �
 -- `view` maps a value of the program to that of the definitions. This is `Decodes` for a value whose reading may
 -- allocate.
 pub record DecodesWithAllocation {X A : Type 0} (view : X → A) (by : Reader A) (old : Input) (result : Result X Error) (new : Input) : Type 0 where
-  -- The value and the position `new` are those of the reader, or the error has its reason.
+  -- `Ok x`: the reader gives `view x` and the position `new`. `Malformed`: it gives nothing, and the place is within the
+  -- bytes from `old` on, or their end. `Memory`: it may allocate at `old` (`grows`). No other error occurs.
   pub reads : ReadsOrFails view by old result new
   -- The bytes end where they ended before.
   pub end : end_of new ≡ end_of old

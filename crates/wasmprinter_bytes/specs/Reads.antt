@@ -35,7 +35,7 @@ IsWithin old result = IsWithinFrom old.place old result
 -- the lower bound; tests check it.
 pub record DecodesFrom {X A : Type 0} (from : ℕ) (view : X → A) (parse : Input → Option (A × Input)) (old : Input)
     (result : Result X Malformed) (new : Input) : Type 0 where
-  -- The value and the position `new` are those of `parse`, or both fail.
+  -- `Ok x`: `parse` gives the value `view x` and the position `new`. An error: `parse` gives nothing.
   pub reads : Reads view parse old result new
   -- The place of an error is not before `from`, and not after the end of the bytes.
   pub within : IsWithinFrom from old result
@@ -44,6 +44,7 @@ pub record DecodesFrom {X A : Type 0} (from : ℕ) (view : X → A) (parse : Inp
   -- The cursor only moves forward.
   pub forward : old.place ≤ new.place
 
--- The same, and the place of an error is not before the position `old`.
+-- The call reads a value by `parse` at `old`, returns `result`, and leaves the cursor at `new`, as `DecodesFrom` says.
+-- The place of an error is not before the position `old`, and not after the end of the bytes.
 abbrev pub Decodes : {X A : Type 0} → (X → A) → (Input → Option (A × Input)) → Input → Result X Malformed → Input → Type 0
 Decodes view parse old result new = DecodesFrom old.place view parse old result new

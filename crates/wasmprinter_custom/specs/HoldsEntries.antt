@@ -12,7 +12,10 @@ abbrev pub names_given : List (List ℕ) → List Entry → List (List ℕ)
 names_given given [] = given
 names_given given (e ∷ entries) = names_given (e.name ∷ given) entries
 
--- The store records which names were given, and for each item the name that its last entry gives.
+-- The store is as after adding exactly these entries, in this order: it records which names were given, and for each
+-- item the name that its last entry gives.
 pub record HoldsEntries (entries : List Entry) (b : NamesBuilder) : Type 0 where
+  -- `q` is recorded exactly if an entry of its subsection, and of its function or type, gives its name.
   pub given : (q : Given) → contains given_cmp b.given q ≡ is_among q.name.now (names_given [] (entries_in q.subsection q.outer entries))
+  -- Each item, by its subsection, function or type, and index, has the name that the entries give it, or none.
   pub names : (s outer index : ℕ) → name_at (items_view b.names) s outer index ≡ name_of entries s outer index

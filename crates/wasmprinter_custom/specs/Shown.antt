@@ -18,11 +18,12 @@ abbrev pub synthesized_view : Bool → ℕ → ℕ → Option Named
 synthesized_view true s number = Some (synthesized_name s number)
 synthesized_view false s number = None
 
--- The identifier that the program's value represents.
+-- The identifier that the program's value represents: the given name, `None` if it is synthesized, and the characters
+-- after the dollar sign.
 abbrev pub identifier_view : Identifier → Named
 identifier_view (Given name) = name_view name
 identifier_view (Synthesized space number) = synthesized_name (id_of space) number
 
--- The identifiers of a module.
+-- The identifiers of all items of a module, from its names and from whether identifiers are synthesized.
 abbrev pub names_of_identifiers : Identifiers → Names
 names_of_identifiers x = names_by x.synthesizes (name_at x.names.now)

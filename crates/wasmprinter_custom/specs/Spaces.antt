@@ -4,7 +4,7 @@ use Rattle.wasmprinter_spec.specs.Names.Section.{function_subsection, local_subs
 use Rattle.wasmprinter_custom.specs.declared.index_space.Space.{Space}
 use Rattle.wasmprinter_custom.specs.declared.index_space.Space.TheVariants.{Func, Local, Label, Types, Table, Memory, Global, Elem, Data, Field, Tag}
 
--- The id of the subsection.
+-- The id of the subsection of name sections that names the items of the space.
 abbrev pub id_of : Space → ℕ
 id_of Func = function_subsection
 id_of Local = local_subsection

@@ -33,7 +33,7 @@ stored_view n = record { given = Some n.given.now; content = content_or n.marked
 abbrev pub name_view : Name → Named
 name_view n = record { given = Some n.given.now; content = n.content.now }
 
--- A named item: the id of its subsection, its function or type, its index, and its name.
+-- A named item: the id of its subsection, its function or type (0 for items of neither), its index, and its name.
 pub record NamedItem : Type 0 where
   pub subsection : ℕ
   pub outer : ℕ
@@ -47,7 +47,8 @@ item_view e = record { subsection = e.0.subsection; outer = e.0.outer; index = e
 abbrev pub items_view : List (Key × StoredName) → List NamedItem
 items_view names = map item_view names
 
--- The name of the item with this subsection, function or type, and index; `None` if it has none.
+-- The name of the item with this subsection, function or type (0 for items of neither), and index; `None` if it has
+-- none.
 abbrev pub name_at : List NamedItem → ℕ → ℕ → ℕ → Option Named
 name_at [] s outer index = None
 name_at (x ∷ xs) s outer index =

@@ -134,8 +134,8 @@ impl<'a> FunctionHints<'a> {
         }
     }
 
-    /// Removes the next hint and returns it if its operator is `offset` bytes after the first byte of the body.
-    /// Otherwise returns `None` and changes nothing.
+    /// Removes the next hint and returns it if its operator is `offset` bytes after the first byte of the body, which
+    /// is the one after the body's size. Otherwise returns `None` and changes nothing.
     pub fn next_at(&mut self, offset: u64) -> Option<Hint>
         ensures gives { result ≡ next_hint offset self.old }
         ensures after { self.new ≡ hints_after offset self.old }

@@ -41,8 +41,10 @@ fn synthesized_identifier<'n>(
 
 impl<'n> Identifiers<'n, '_> {
     /// Returns the identifier of an item: that of its name or, if it has none and identifiers are synthesized, a
-    /// synthesized one, and otherwise `None`. `number` is the item's index. `outer` is the function of a local or label
-    /// or the type of a field; for other items it is ignored.
+    /// synthesized one with `number`, and otherwise `None`. `number` is the item's index or, for a label,
+    /// [`LabelName::number`](crate::LabelName::number). (In a text, the synthesized identifier of a label has the
+    /// number of blocks around it instead.) `outer` is the index of the function of a local or label (imports counted)
+    /// or of the type of a field; for other items it is ignored.
     pub fn item(&self, space: Space, outer: u64, number: u64) -> Option<Identifier<'n>>
         ensures { option_map identifier_view result
             ≡ name_in self.now.synthesizes (name_at self.now.names.now) (id_of space) (outer_of space outer) number }
@@ -53,7 +55,8 @@ impl<'n> Identifiers<'n, '_> {
         }
     }
 
-    /// Returns the identifier of the module, or `None` if the module has no name. It is never synthesized.
+    /// Returns the identifier of the module, or `None` if the module has no name. It is never synthesized. The clause
+    /// looks the name up in `module_subsection`, in no function or type (`0`), at index 0.
     pub fn module(&self) -> Option<Identifier<'n>>
         ensures { option_map identifier_view result ≡ name_at self.now.names.now module_subsection 0 0 }
     {

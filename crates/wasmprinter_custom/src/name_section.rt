@@ -133,6 +133,7 @@ fn read_subsections<'a>(
 }
 
 /// Adds the names that the data of a name section gives, up to the first error in it. That error is not reported.
+/// `section` is at the first byte after the section's name, and ends with the section.
 /// Several sections are added in order: on `Ok`, the builder holds its old entries and then those of this section.
 ///
 /// # Errors

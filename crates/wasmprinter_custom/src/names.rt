@@ -32,9 +32,9 @@ pub struct Name<'a> {
 /// The name of a label.
 #[derive(Clone, Copy, Debug, PartialEq, Eq)]
 pub struct LabelName<'a> {
-    /// The function whose body has the label.
+    /// The index of the function whose body has the label, imports counted.
     pub function: u64,
-    /// The position of its block among the function's blocks, in the order in which they are opened.
+    /// The position of its block among the function's blocks, from 0, in the order in which they are opened.
     pub number: u64,
     /// The name of the label.
     pub name: Name<'a>,
@@ -127,7 +127,7 @@ pub struct NamesBuilder<'a> {
 impl<'a> NamesBuilder<'a> {
     ghost use Rattle.wasmprinter_custom.specs.HoldsEntries.{HoldsEntries};
 
-    /// Returns an empty builder: it holds no entries.
+    /// Returns an empty builder: it holds no entries (`[]`).
     pub fn new(alloc: Global) -> Self
         ensures { HoldsEntries [] result }
     {
@@ -238,7 +238,8 @@ impl Names<'_> {
     }
 
     /// Returns the identifier of an item, without its dollar sign, or `None` if the item has no name. `outer` is the
-    /// function of a local or a label or the type of a field; for other items it is ignored.
+    /// index of the function of a local or a label (imports counted) or of the type of a field; for other items it is
+    /// ignored. The index of a label is its [`LabelName::number`].
     pub fn identifier(&self, space: Space, outer: u32, index: u32) -> Option<&str>
         ensures { option_copied result ≡ option_map (λ n. n.content) (name_at self.now (id_of space) (outer_of space outer) index) }
     {
@@ -246,7 +247,8 @@ impl Names<'_> {
             .map(|name| name.content)
     }
 
-    /// Returns the identifier of the module, without its dollar sign, or `None` if the module has no name.
+    /// Returns the identifier of the module, without its dollar sign, or `None` if the module has no name. The clause
+    /// looks the name up in `module_subsection`, in no function or type (`0`), at index 0.
     pub fn module(&self) -> Option<&str>
         ensures { option_copied result ≡ option_map (λ n. n.content) (name_at self.now module_subsection 0 0) }
     {

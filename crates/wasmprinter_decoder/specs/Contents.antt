@@ -120,12 +120,21 @@ whole_reasons {C} w made items functions at = record {
 abbrev pub content_reasons : Kind → Input → Reasons
 content_reasons kind at = whole_reasons (content kind) (holds kind) (HoldsItems kind) (kind ≡ FunctionSection) at
 
--- The bytes encode the value and nothing after it; or, on an error, they do not encode a value.
+-- The bytes encode the value and nothing after it; or, on an error, they do not encode a value, and its place is not
+-- before the first of the bytes and not after their end. `view` maps a value of the program to that of the definitions.
+-- Nothing is said of the cursor after the call.
 abbrev pub ReadsAll : {X A : Type 0} → (X → A) → (Input → Option A) → Input → Result X Malformed → Type 0
 ReadsAll view parse at (Ok x) = parse at ≡ Some (view x)
 ReadsAll view parse at (Err e) = (parse at ≡ None) × IsPlaceIn at e.place
 
--- The bytes encode content of this kind, which is within the limits; or the error has its reason.
+-- The bytes encode content of this kind and nothing after it, which is within the limits; or the error has its reason:
+-- - `Malformed`: the bytes encode no such content. The place is not before the first of them and not after their end.
+-- - `TooManyFunctions`: only for function sections. The bytes begin with this count, which is above the limit.
+-- - `TooManyLocals`, `EmptyTableInit`: at the place, the bytes contain a list of locals above the limit, or a table with
+--   an empty initialiser. If the bytes encode such content, the place is that of the first such body of a code section,
+--   or of the first such table of a table section.
+-- - `Memory`: the content is a list, and the bytes begin with a count above zero.
+-- `view` maps a value of the program to that of the definitions. Nothing is said of the cursor after the call.
 abbrev pub DecodesContent : (kind : Kind) → {X : Type 0} → (X → Content kind) → Input → Result X Error → Type 0
 DecodesContent kind view at (Ok v) = ((content kind).parse at ≡ Some (view v)) × IsSectionWithinLimits (holds kind (view v))
 DecodesContent kind view at (Err e) = HasReason (content_reasons kind at) e

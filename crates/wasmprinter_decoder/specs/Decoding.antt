@@ -21,7 +21,8 @@ items_held m =
 abbrev pub HoldsSome : PlacedModule → Type 0
 HoldsSome m = 0 < items_held m
 
--- The module has no item.
+-- The module has no group of types, import, function, table, memory, tag, global, export, segment or custom section.
+-- It may have a start function.
 abbrev pub HoldsNothing : PlacedModule → Type 0
 HoldsNothing m = items_held m ≡ 0
 
@@ -47,7 +48,8 @@ module_reasons bytes component = record {
 abbrev pub IsFaultOf : List ℕ → Error → Type 0
 IsFaultOf bytes e = HasReason (module_reasons bytes ⊥) e
 
--- The error has a true reason.
+-- The error has its reason, as `module_reasons` lists them. `Component` is returned only if the bytes are marked as a
+-- component. Errors of printing are not returned.
 abbrev pub HasDecodingReason : List ℕ → Error → Type 0
 HasDecodingReason bytes e = HasReason (module_reasons bytes (IsComponent bytes)) e
 

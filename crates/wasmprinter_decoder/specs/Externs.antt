@@ -44,7 +44,7 @@ abbrev pub IsPageExponent : Option ℕ → Type 0
 IsPageExponent None = Unit {0}
 IsPageExponent (Some exponent) = exponent < 64
 
--- The same for the type of an imported memory. An import of another kind satisfies it.
+-- If the type of an import is that of a memory, the exponent of its page size, if given, is below 64.
 abbrev pub HasPageExponent : ExternType → Type 0
 HasPageExponent (x.Func i) = Unit {0}
 HasPageExponent (x.Table t) = Unit {0}

@@ -31,6 +31,6 @@ pub record HasFewItems (is : List (Placed Import)) (us : List PlacedTable) (ms :
 abbrev pub bodies_of : List PlacedFunction → List (Placed Body)
 bodies_of fs = map (λ f. f.body) fs
 
--- The body of the function with this number among the defined functions, if there is one.
+-- The body of the function with this number, from 0, among the defined functions, if there is one.
 abbrev pub body_at : List PlacedFunction → ℕ → Option (Placed Body)
 body_at fs i = slice_get (bodies_of fs) i

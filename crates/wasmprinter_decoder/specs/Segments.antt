@@ -29,28 +29,28 @@ constant_of e = e.items
 abbrev pub constants_of : List (Closed (Placed Operator)) → List Constant
 constants_of es = map constant_of es
 
--- The initialiser of a table.
+-- The operators of a table's initialiser, if it has one, without the place of their `end`.
 abbrev pub init_of : Option (Closed (Placed Operator)) → Option Constant
 init_of None = None
 init_of (Some e) = Some (constant_of e)
 
--- The same for a borrowed initialiser.
+-- The operators of a borrowed initialiser of a table, if there is one, without the place of their `end`.
 abbrev pub init_view : Option (Bor (Closed (Placed Operator))) → Option Constant
 init_view None = None
 init_view (Some e) = Some (constant_of e.now)
 
--- The mode of an element segment.
+-- The mode of an element segment. Its offset is given by its operators, without the place of their `end`.
 abbrev pub element_mode_view : ElementMode → DefinedElementMode (Placed Operator)
 element_mode_view m.Passive = Passive
 element_mode_view m.Declared = Declared
 element_mode_view (m.Active table offset) = Active table (constant_of offset)
 
--- The items of an element segment.
+-- The items of an element segment. Expressions are given by their operators, without the place of their `end`.
 abbrev pub element_items_view : ElementItems → Items (Placed Operator)
 element_items_view (i.Functions is) = Functions is
 element_items_view (i.Expressions t es) = Expressions (ref_view t) (constants_of es.items)
 
--- The mode of a data segment.
+-- The mode of a data segment. Its offset is given by its operators, without the place of their `end`.
 abbrev pub data_mode_view : DataMode → DefinedDataMode (Placed Operator)
 data_mode_view d.Passive = PassiveData
 data_mode_view (d.Active memory offset) = ActiveData memory (constant_of offset)

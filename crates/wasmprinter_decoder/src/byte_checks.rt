@@ -10,7 +10,8 @@ use wasmprinter_bytes::cursor::Cursor;
 ///
 /// # Errors
 ///
-/// `Malformed` if bytes remain, with the place of the first.
+/// `Malformed` if bytes remain, with the place of the first. The contract says of the place only that it is not before
+/// the first remaining byte, and not after the end of the bytes.
 pub fn expect_end(cursor: &Cursor) -> Result<(), Malformed>
     ensures { MatchResult result (λ _. cursor.now.bytes ≡ []) (λ e. (cursor.now.bytes ≡ [] → ⊥) × IsPlaceIn cursor.now e.place) }
 {
@@ -28,7 +29,8 @@ pub fn expect_end(cursor: &Cursor) -> Result<(), Malformed>
 ///
 /// # Errors
 ///
-/// `Malformed` if the byte differs or is missing, with its place.
+/// `Malformed` if the byte differs or is missing, with its place. The contract only bounds the place, as
+/// [`Error::Malformed`](wasmprinter_bytes::Error::Malformed) says.
 pub fn read_only(cursor: &mut Cursor, wanted: u8) -> Result<u8, Malformed>
     ensures { Decodes (λ b. b) (only wanted).parse cursor.old result cursor.new }
 {

@@ -58,7 +58,7 @@ impl Decode for LocalEntry {
 }
 
 impl LocalEntry {
-    /// Returns the place of the entry: a byte offset from the start of the module.
+    /// Returns the place of the entry's first byte: a byte offset from the start of the module.
     pub fn place(&self) -> u64
         ensures { result ≡ self.now.place }
     {
@@ -164,8 +164,8 @@ impl<'a> Body<'a> {
         }
     }
 
-    /// Returns the operators in order, each with its place, without the last `end` (`all`). They are well nested: each
-    /// block that one of them opens is closed by another (`nested`).
+    /// Returns the operators in order, each with its place, without the last `end` (`all`). They are well nested, as a
+    /// whole sequence of operators (`Sequence`): each block that one of them opens is closed by another (`nested`).
     pub fn operators(&self) -> OperatorsReader<'a>
         ensures all { result ≡ self.now.value.operators }
         ensures nested { Nests Sequence (roles self.now.value.operators) }
@@ -173,7 +173,7 @@ impl<'a> Body<'a> {
         self.code.operators()
     }
 
-    /// Returns the place of the body's first byte: a byte offset from the start of the module.
+    /// Returns the place of the body's first byte, after its size: a byte offset from the start of the module.
     pub fn place(&self) -> u64
         ensures { result ≡ self.now.place }
     {
@@ -236,8 +236,8 @@ fn read_bodies<'a>(alloc: Global, cursor: &mut Cursor<'a>) -> Result<Vec<Body<'a
 /// - `Malformed` if the bytes do not encode a list of bodies and nothing after it, with a place as
 ///   [`Error::Malformed`](wasmprinter_bytes::Error::Malformed) describes it.
 /// - `TooManyLocals` if a body has more than 50,000 locals, not counting parameters. If the bytes encode a list of
-///   bodies, the place is that of the first such body.
-/// - `Memory` if an allocation fails.
+///   bodies, the place is that of the first such body, after its size.
+/// - `Memory` if an allocation fails, which happens only if the bytes begin with a count above zero.
 pub fn read_code<'a>(alloc: Global, cursor: &mut Cursor<'a>) -> Result<Vec<Body<'a>>, Error>
     ensures { DecodesContent CodeSection (λ v. v.items) cursor.old result }
 {

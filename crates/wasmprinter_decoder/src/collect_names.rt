@@ -17,6 +17,9 @@ impl<'a> Module<'a> {
     /// A name section counts up to its first error, which is not reported. Names of items that do not exist are
     /// returned too.
     ///
+    /// In the clause `names`, `s` is the id of a subsection, `outer` the function of a local or a label, the type of a
+    /// field, and 0 for any other item, and `index` the item's index.
+    ///
     /// # Errors
     ///
     /// - `Memory` if an allocation failed. This can happen only if a name section gives a name. No other error is

@@ -52,8 +52,8 @@ impl<'a> Custom<'a> {
         })
     }
 
-    /// Returns the place of the name, which is the start of the section's content: a byte offset from
-    /// the start of the module.
+    /// Returns the place of the first byte of the section's content, where the length of the name starts: a byte offset
+    /// from the start of the module.
     pub fn place(&self) -> u64
         ensures { result ≡ self.now.place }
     {

@@ -106,7 +106,7 @@ impl<'a> GrownIn<'a> for Data<'a> {
 }
 
 impl<'a> Data<'a> {
-    /// Returns the place of the entry: a byte offset from the start of the module.
+    /// Returns the place of the entry's first byte: a byte offset from the start of the module.
     pub fn place(&self) -> u64
         ensures { result ≡ self.now.place }
     {
@@ -135,7 +135,7 @@ impl<'a> Data<'a> {
 ///
 /// - `Malformed` if the bytes do not encode a list of data segments and nothing after it, with a place as
 ///   [`Error::Malformed`](wasmprinter_bytes::Error::Malformed) describes it.
-/// - `Memory` if an allocation fails.
+/// - `Memory` if an allocation fails, which happens only if the bytes begin with a count above zero.
 pub fn read_data<'a>(alloc: Global, cursor: &mut Cursor<'a>) -> Result<Vec<Data<'a>>, Error>
     ensures { DecodesContent DataSection (λ v. v.items) cursor.old result }
 {
@@ -144,8 +144,8 @@ pub fn read_data<'a>(alloc: Global, cursor: &mut Cursor<'a>) -> Result<Vec<Data<
     Ok(segments)
 }
 
-/// Reads the content of a data count section. On `Ok`, the result is the value that the grammar gives for all
-/// remaining bytes.
+/// Reads the content of a data count section. On `Ok`, `Some` of the result is the value that the grammar gives for all
+/// remaining bytes (`None` is the content of a missing section).
 ///
 /// # Errors
 ///

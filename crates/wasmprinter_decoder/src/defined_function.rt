@@ -28,7 +28,7 @@ impl<'a> Function<'a> {
         self.type_index
     }
 
-    /// Returns the function's body: its locals and operators.
+    /// Returns the function's body, with the place of its first byte.
     pub fn body(&self) -> &Body<'a>
         ensures { result.now ≡ self.now.body }
     {

@@ -183,7 +183,7 @@ impl<'a> GrownIn<'a> for Element<'a> {
 }
 
 impl<'a> Element<'a> {
-    /// Returns the place of the entry: a byte offset from the start of the module.
+    /// Returns the place of the entry's first byte: a byte offset from the start of the module.
     pub fn place(&self) -> u64
         ensures { result ≡ self.now.place }
     {
@@ -220,7 +220,7 @@ impl<'a> Element<'a> {
 ///
 /// - `Malformed` if the bytes do not encode a list of element segments and nothing after it, with a place
 ///   as [`Error::Malformed`](wasmprinter_bytes::Error::Malformed) describes it.
-/// - `Memory` if an allocation fails.
+/// - `Memory` if an allocation fails, which happens only if the bytes begin with a count above zero.
 pub fn read_elements<'a>(alloc: Global, cursor: &mut Cursor<'a>) -> Result<Vec<Element<'a>>, Error>
     ensures { DecodesContent ElementSection (λ v. v.items) cursor.old result }
 {

@@ -91,7 +91,7 @@ impl<'a> DecodeIn<'a> for Export<'a> {
 }
 
 impl<'a> Export<'a> {
-    /// Returns the place of the entry: a byte offset from the start of the module.
+    /// Returns the place of the entry's first byte: a byte offset from the start of the module.
     pub fn place(&self) -> u64
         ensures { result ≡ self.now.place }
     {
@@ -127,7 +127,7 @@ impl<'a> Export<'a> {
 ///
 /// - `Malformed` if the bytes do not encode a list of exports and nothing after it, with a place as
 ///   [`Error::Malformed`](wasmprinter_bytes::Error::Malformed) describes it.
-/// - `Memory` if an allocation fails.
+/// - `Memory` if an allocation fails, which happens only if the bytes begin with a count above zero.
 pub fn read_exports<'a>(alloc: Global, cursor: &mut Cursor<'a>) -> Result<Vec<Export<'a>>, Error>
     ensures { DecodesContent ExportSection (λ v. v.items) cursor.old result }
 {

@@ -38,8 +38,8 @@ fn read_type_indices(alloc: Global, cursor: &mut Cursor) -> Result<Vec<u32>, Err
 ///
 /// - `Malformed` if the bytes do not encode a list of type indices and nothing after it, with a place as
 ///   [`Error::Malformed`](wasmprinter_bytes::Error::Malformed) describes it.
-/// - `TooManyFunctions` if there are more than 1,000,000.
-/// - `Memory` if an allocation fails.
+/// - `TooManyFunctions` if there are more than 1,000,000. The count is the one with which the bytes begin.
+/// - `Memory` if an allocation fails, which happens only if the bytes begin with a count above zero.
 pub fn read_functions(alloc: Global, cursor: &mut Cursor) -> Result<Vec<u32>, Error>
     ensures { DecodesContent FunctionSection (λ v. v.items) cursor.old result }
 {

@@ -49,7 +49,7 @@ impl<'a> GrownIn<'a> for Global<'a> {
 }
 
 impl<'a> Global<'a> {
-    /// Returns the place of the entry: a byte offset from the start of the module.
+    /// Returns the place of the entry's first byte: a byte offset from the start of the module.
     pub fn place(&self) -> u64
         ensures { result ≡ self.now.place }
     {
@@ -79,7 +79,7 @@ impl<'a> Global<'a> {
 ///
 /// - `Malformed` if the bytes do not encode a list of globals and nothing after it, with a place as
 ///   [`Error::Malformed`](wasmprinter_bytes::Error::Malformed) describes it.
-/// - `Memory` if an allocation fails.
+/// - `Memory` if an allocation fails, which happens only if the bytes begin with a count above zero.
 pub fn read_globals<'a>(alloc: Allocator, cursor: &mut Cursor<'a>) -> Result<Vec<Global<'a>>, Error>
     ensures { DecodesContent GlobalSection (λ v. v.items) cursor.old result }
 {

@@ -104,7 +104,7 @@ impl<'a> DecodeIn<'a> for Import<'a> {
 }
 
 impl<'a> Import<'a> {
-    /// Returns the place of the entry: a byte offset from the start of the module.
+    /// Returns the place of the entry's first byte: a byte offset from the start of the module.
     pub fn place(&self) -> u64
         ensures { result ≡ self.now.place }
     {

@@ -107,7 +107,7 @@ impl<'a> DecodeIn<'a> for Memory {
 }
 
 impl Memory {
-    /// Returns the place of the entry: a byte offset from the start of the module.
+    /// Returns the place of the entry's first byte: a byte offset from the start of the module.
     pub fn place(&self) -> u64
         ensures { result ≡ self.now.place }
     {
@@ -130,7 +130,7 @@ impl Memory {
 ///
 /// - `Malformed` if the bytes do not encode a list of memory types and nothing after it, with a place as
 ///   [`Error::Malformed`](wasmprinter_bytes::Error::Malformed) describes it.
-/// - `Memory` if an allocation fails.
+/// - `Memory` if an allocation fails, which happens only if the bytes begin with a count above zero.
 pub fn read_memories(alloc: Global, cursor: &mut Cursor) -> Result<Vec<Memory>, Error>
     ensures { DecodesContent MemorySection (λ v. v.items) cursor.old result }
 {

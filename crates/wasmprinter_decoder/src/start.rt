@@ -28,7 +28,7 @@ impl Model for Start {
 }
 
 impl Start {
-    /// Returns the place of the function's index: a byte offset from the start of the module.
+    /// Returns the place of the first byte of the function's index: a byte offset from the start of the module.
     pub fn place(&self) -> u64
         ensures { result ≡ self.now.place }
     {
@@ -43,8 +43,8 @@ impl Start {
     }
 }
 
-/// Reads the content of a start section. On `Ok`, the result is the value that the grammar gives for all
-/// remaining bytes.
+/// Reads the content of a start section. On `Ok`, `Some` of the result is the value that the grammar gives for all
+/// remaining bytes (`None` is the content of a missing section).
 ///
 /// # Errors
 ///

@@ -51,7 +51,7 @@ impl<'a> DecodeIn<'a> for Tag {
 }
 
 impl Tag {
-    /// Returns the place of the entry: a byte offset from the start of the module.
+    /// Returns the place of the entry's first byte: a byte offset from the start of the module.
     pub fn place(&self) -> u64
         ensures { result ≡ self.now.place }
     {
@@ -73,7 +73,7 @@ impl Tag {
 ///
 /// - `Malformed` if the bytes do not encode a list of tags and nothing after it, with a place as
 ///   [`Error::Malformed`](wasmprinter_bytes::Error::Malformed) describes it.
-/// - `Memory` if an allocation fails.
+/// - `Memory` if an allocation fails, which happens only if the bytes begin with a count above zero.
 pub fn read_tags(alloc: Global, cursor: &mut Cursor) -> Result<Vec<Tag>, Error>
     ensures { DecodesContent TagSection (λ v. v.items) cursor.old result }
 {

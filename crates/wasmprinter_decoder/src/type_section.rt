@@ -155,7 +155,7 @@ impl<'a> Types<'a> {
     ///
     /// - `Malformed` if the bytes do not encode a list of groups and nothing after it, with a place as
     ///   [`Error::Malformed`](wasmprinter_bytes::Error::Malformed) describes it.
-    /// - `Memory` if an allocation fails.
+    /// - `Memory` if an allocation fails, which happens only if the bytes begin with a count above zero.
     pub fn read(alloc: Global, cursor: &mut Cursor<'a>) -> Result<Self, Error>
         ensures { DecodesContent TypeSection (λ t. t) cursor.old result }
     {
@@ -183,7 +183,8 @@ impl<'a> Types<'a> {
         &self.groups
     }
 
-    /// Returns the function type with the index, or `None` if the index is not that of a function type.
+    /// Returns the function type with the index, or `None` if the index is not that of a function type. Type indices
+    /// run across groups, from 0.
     pub fn signature(&self, index: u32) -> Option<FuncType<'a>>
         ensures { result ≡ signature_at (all_types (groups_of self.now)) index }
     {
@@ -193,7 +194,7 @@ impl<'a> Types<'a> {
         }
     }
     /// Returns the number of fields of the structure type with the index, or `None` if the index is not
-    /// that of a structure type.
+    /// that of a structure type. Type indices run across groups, from 0.
     pub fn field_count(&self, index: u32) -> Option<u32>
         ensures { result ≡ option_map length (fields_at (all_types (groups_of self.now)) index) }
     {

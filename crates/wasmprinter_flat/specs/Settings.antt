@@ -38,6 +38,7 @@ word_pieces s own xs o =
     let role : Role = role_of o.opcode in
     Word (word_of o.opcode) ∷ layout.pieces_by s (labels_inside role xs) (labels_outside role xs) own (shape_of o.opcode) o.immediates
 
--- The pieces of an operator's word and immediates, in the program's state of the labels.
+-- The pieces of an operator's word and immediates, in the program's state of the labels before it. A block that it
+-- opens has the label `own_label`.
 abbrev pub word_pieces_with_names : {S : Type 0} → (S → ℕ → Option FuncType) → Setting S → LabelState → Operator → List Piece
 word_pieces_with_names signature_at s labels o = word_pieces (setting_with_names signature_at s labels) (own_label labels) labels.labels o

@@ -100,7 +100,7 @@ impl<'n, 'a> OpenLabels<'n, 'a> {
     ///
     /// # Errors
     ///
-    /// If an allocation fails. If no label has a name, there is no error (`succeeds`).
+    /// If an allocation fails. If no label of any function has a name, there is no error (`succeeds`).
     pub fn new(alloc: Global, identifiers: Identifiers<'n, 'a>) -> Result<Self, AllocError>
         ensures start { IfOk result (λ labels. labels ≡ at_start identifiers.entry 0) }
         ensures succeeds { ((f n : ℕ) → name_at identifiers.entry.names.now label_subsection f n ≡ None) → IsOk result }
@@ -149,6 +149,9 @@ impl<'n, 'a> OpenLabels<'n, 'a> {
     }
 
     /// Returns the identifier of the block that would be opened next, if it has one.
+    ///
+    /// Its name is that of its number: blocks count from 0, as they open. Without a name, the identifier is synthesized
+    /// from the number of open blocks, or `None` if identifiers are not synthesized.
     pub fn own(&self) -> Option<Identifier<'n>>
         ensures { option_map identifier_view result ≡ own_label self.now }
     {
@@ -184,9 +187,10 @@ impl<'n, 'a> OpenLabels<'n, 'a> {
         }
     }
 
-    /// Moves past an operator with the role. If it opens a block, that block is counted and becomes the innermost
-    /// one. If it ends a block, the innermost one, if any, is closed. The identifiers stay. Fewer than 2^64 - 1 blocks
-    /// must have been opened.
+    /// Moves past an operator with the role. If it opens a block, that block is counted and becomes the innermost one,
+    /// with the identifier that [`OpenLabels::own`] returned. If it is `end` or `delegate`, the innermost block, if
+    /// any, is closed. Any other operator, also `else`, changes nothing. The identifiers and the function stay. Fewer
+    /// than 2^64 - 1 blocks must have been opened.
     #[inline]
     pub fn advance(&mut self, role: Role)
         requires { self.old.count + 1 < 2 ^ 64 }
@@ -221,9 +225,10 @@ impl<'n, 'a> OpenLabels<'n, 'a> {
     }
 
     /// Returns the meaning of a label index in an operator with the role, among the blocks that are open before it:
-    /// `ByName` for a block with an identifier, `ByNumber` if an inner block shadows this identifier, `ToBlock` for a
-    /// block without one, `ByNumber` also for the body, and `ToNothing` if the index is greater. For `delegate` the
-    /// innermost block is not counted, but its label still shadows others.
+    /// `ByName` for a block with an identifier, `ByNumber` instead if a block inside it was given the same name,
+    /// `ToBlock` for a block without an identifier, `ByNumber` also for the body, and `ToNothing` if the index is
+    /// greater. For `delegate` the index does not count the innermost block, but the name of that block still shadows
+    /// others.
     pub fn find(&self, role: Role, label: u32) -> LabelRef<'n>
         ensures { found_view result ≡ found_at (role_view role) self.now label }
     {

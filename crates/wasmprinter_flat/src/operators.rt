@@ -56,8 +56,9 @@ fn level(role: Role, depth: u64) -> u64
     }
 }
 
-/// Starts an operator. Over lines, begins a line with the place `place`, a byte offset from the start of the module,
-/// indented by `nesting + depth` levels. In one line, writes a space unless the operator is the first of its list.
+/// Starts an operator. Over lines, starts a line, also for the first operator, as [`write_break_inside`] does: with the
+/// place `place`, a byte offset from the start of the module, at nesting depth `nesting + depth`. In one line, writes a
+/// space, or nothing if the operator is the first of its list (`first`).
 pub fn start_operator<O: Output>(
     out: &mut O,
     form: Form,
@@ -79,7 +80,9 @@ pub fn start_operator<O: Output>(
 }
 
 /// Writes the word of an operator and its immediates, with a space before each immediate. `labels` are those that are
-/// open before it, and have the identifiers of the module. They must be fewer than 2^64 - 1.
+/// open before it, and have the identifiers of the module. They must be fewer than 2^64 - 1. An operator that opens a
+/// block has first the identifier of [`OpenLabels::own`] or, if this is `None`, last a comment with the number of the
+/// block, 1 for the outermost: a line comment over lines, a block comment in one line.
 #[inline(never)]
 pub fn write_operator_word<O: Output, S: Signatures>(
     out: &mut O,
@@ -132,10 +135,14 @@ fn write_next_hint<O: Output, S: Signatures>(
     }
 }
 
-/// Writes the operators of an expression, each after its hint if it has one. A hint is on a line of its own. A hint
-/// whose offset is that of no operator is not written, and neither are the hints after it (`pieces`). `labels` is first
-/// reset to the start of `setting.function`, so its earlier use does not matter. Its identifiers, which were passed to
-/// `OpenLabels::new`, stay (`item_names`, `synthesizes`).
+/// Writes the operators of an expression, each after its hint if it has one. [`start_operator`] starts each, at nesting
+/// depth `setting.nesting` plus the number of open blocks, or one less if it ends a block or a part of one. A hint is
+/// on a line of its own in both forms. A hint whose offset is that of no operator after those of the earlier hints is
+/// not written, and neither are the hints after it (`pieces`).
+///
+/// `labels` is first reset to the start of `setting.function`, so its earlier use does not matter. Its identifiers,
+/// which were passed to `OpenLabels::new`, stay (`item_names`, `synthesizes`). Which blocks are open in it afterwards
+/// is not part of the contract.
 pub fn write_operators<O: Output, S: Signatures>(
     out: &mut O,
     setting: &Setting<'_, S>,

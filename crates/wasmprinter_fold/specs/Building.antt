@@ -21,7 +21,8 @@ pub record StateOf (H : Type 0) : Type 0 where
   pub groups : NodesOf H
 
 -- The step of an operator: a plain one with the numbers of its operands and results, one that opens a block with a
--- number of results, an `else`, or an `end`.
+-- number of results, an `else`, or an `end`. The heads are those of their nodes; the second head of `OpensIf` and the
+-- head of `Else` are those of the nodes of the cases that they open.
 pub data Step (H : Type 0) : Type 0 where
   Plain : H → ℕ → ℕ → Step H
   Opens : H → ℕ → Step H

@@ -18,7 +18,7 @@ width (Snoc before head results held) = suc (width before)
 abbrev pub candidate_after : ℕ → NodesOf NodeText → ℕ → Candidate
 candidate_after first f results = record { start = first + count f; sum = results_of f + results }
 
--- The candidates of a row.
+-- The candidates of a row, one for each node that no other node of it holds. Its first node has the index `first`.
 abbrev pub candidates : ℕ → NodesOf NodeText → List Candidate
 candidates first Nil = []
 candidates first (Snoc before head results held) = candidates first before ++ candidate_after first before results ∷ []
@@ -45,14 +45,15 @@ outcome (Fit before run) = taken.From (width before)
 outcome Overshot = taken.Overshot
 outcome TooFew = taken.TooFew
 
--- The position after these nodes of a row.
+-- The position after the nodes `before` of a row. Its first node has the index `first`.
 pub record IsCut (first : ℕ) (before : NodesOf NodeText) (cut : Cut) : Type 0 where
   pub kept : cut.kept ≡ width before
   pub start : cut.start ≡ first + count before
   pub sum : cut.sum ≡ results_of before
 
--- The position at which the operands of a plain operator begin, given the outcome of the search for them, and the number
--- of results that its node counts for.
+-- The position at which the operands of a plain operator begin, given the outcome of the search for them in the nodes
+-- `f`, and the number of results that its node counts for. The operator itself has `own` results, and the first node
+-- the index `first`.
 pub record IsOperandsCut (first : ℕ) (f : NodesOf NodeText) (own : ℕ) (o : OperandsOf NodeText) (cut : Cut) (results : ℕ) : Type 0 where
   pub before : NodesOf NodeText
   pub taken : NodesOf NodeText
@@ -60,7 +61,7 @@ pub record IsOperandsCut (first : ℕ) (f : NodesOf NodeText) (own : ℕ) (o : O
   pub cuts : IsCut first before cut
   pub folds : (head : NodeText) → with_operands f head own o ≡ Snoc before head results taken
 
--- The candidates are those of a row, and the node after the row has the index `end`.
+-- The candidates are those of the nodes `f`. The first of these has the index `first`, the node after them `end`.
 pub record IsEndOf (row : List Candidate) (end first : ℕ) (f : NodesOf NodeText) : Type 0 where
   pub whole : row ≡ candidates first f
   pub ends : end ≡ first + count f

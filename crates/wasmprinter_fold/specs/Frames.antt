@@ -67,7 +67,8 @@ pub record AreListsOf (nodes : List Node) (row : List Candidate) (blocks : List 
   pub outer_limited : AreLimited s.outer
   pub limited : IsLimited s.groups
 
--- The lists of the builder represent this state.
+-- The lists of the builder represent this state: they have all its nodes in postorder, those that a later operator may
+-- take (candidates), and its open blocks. No candidate and no open block counts for more than 2^32 - 1 results.
 abbrev pub Represents : Builder → State → Type 0
 Represents b s = AreListsOf b.nodes.items b.candidates.items b.frames.items s
 

@@ -60,7 +60,8 @@ operator_step color s l place hint o counts =
     shown_step (role_of o.opcode) (shown_operator color s l place hint o) (shown_keyword color place (codes "then"))
     (shown_keyword color place (codes "else")) counts
 
--- The tree is that of the code; if folding was refused, there is no code.
+-- If the operators were folded (the second Boolean), they have code, no block is open (`Top`), and the nodes of the
+-- tree have the texts of the nodes of this code, with escape sequences if `color` says so. Otherwise they have no code.
 abbrev pub IsGrown : Bool → GrowingTree → Bool → Option NestedCode → Type 0
 IsGrown color t true c = (code : NestedCode) × (c ≡ Some code) × Shows t (state_at Top (map_nodes (shown_head color) (tree code)))
 IsGrown color t false c = c ≡ None

@@ -26,10 +26,10 @@ abbrev pub grow_all : NodesOf NodeText → List Node → NodesOf NodeText
 grow_all f [] = f
 grow_all f (n ∷ ns) = grow_all (grow f n) ns
 
--- The nodes that a list represents.
+-- The nodes that a list represents: each holds the nodes directly before it that its size counts.
 abbrev pub forest_of : List Node → NodesOf NodeText
 forest_of ns = grow_all Nil ns
 
--- The list represents nodes.
+-- The list represents nodes: each comes directly after all nodes that it holds, and its size counts these and itself.
 pub record IsPostorder (ns : List Node) : Type 0 where
   pub whole : postorder (forest_of ns) ≡ ns

@@ -58,18 +58,21 @@ abbrev pub shown_hint : Form → Bool → ℕ → ℕ → Option Bool → List P
 shown_hint form first place nesting None = []
 shown_hint form first place nesting (Some taken) = before_word form first place nesting ++ Word (text defaults (HintAnnotation taken)) ∷ []
 
--- The closing parenthesis of a node must not be part of a line comment.
+-- The closing parenthesis of a node must not be part of a line comment: if a node holds no nodes (the first argument)
+-- and its text has two consecutive semicolons (the second), a line break follows the text.
 abbrev pub comment_break : Bool → Bool → ℕ → ℕ → List Piece
 comment_break true true place nesting = Break (Some place) nesting ∷ []
 comment_break _ _ place nesting = []
 
--- The pieces of a node before the nodes that it holds.
+-- The pieces of a node before the nodes that it holds: its hint, if it has one, the line break or space before it, its
+-- parenthesis and text. `leads` says whether the node is the first of its line, `leaf` whether it holds no nodes.
 abbrev pub node_front : Form → Bool → Bool → ℕ → ShownNode → List Piece
 node_front form leads leaf nesting s =
     shown_hint form leads s.place nesting s.hint
     ++ (before_word form (leads && is_none s.hint) s.place nesting ++ (OpenPlain s.text ∷ comment_break leaf s.comment s.place nesting))
 
--- The pieces of a row of nodes at a nesting depth. `first` says whether the row is the first of its line.
+-- The pieces of a row of nodes at a nesting depth, each around the nodes that it holds, which are one level deeper.
+-- `first` says whether the row is the first of its line: then, in one line, nothing comes before its first node.
 unfoldable pub row_pieces : Form → Bool → ℕ → NodesOf ShownNode → List Piece
 row_pieces form first nesting Nil = []
 row_pieces form first nesting (Snoc before s results held) =

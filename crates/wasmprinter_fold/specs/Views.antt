@@ -9,6 +9,6 @@ pub record FolderView : Type 0 where
   pub color : Bool
   pub operators_of : PlacedModule
 
--- The folding of the layout.
+-- How the folder folds: with its color, and by the arities of the opcodes and of the items of its module.
 abbrev pub folding_view : FolderView → Folding
 folding_view f = record { color = f.color; signatures = signatures_within f.operators_of }

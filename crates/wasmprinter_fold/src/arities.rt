@@ -23,7 +23,8 @@ use wasmprinter_ops::operator::Operator;
 /// function's type is unknown.
 ///
 /// Counts saturate at the greatest 32-bit number. An operator takes and gives nothing if the item that it refers to
-/// is unknown. A block takes nothing, whatever its parameters are.
+/// is unknown. A block takes nothing, whatever its parameters are. Contracts see `callees` as the module, and `labels`
+/// as the numbers of values that branches to the open labels take, the innermost first.
 pub fn counts_of(
     callees: &FunctionAndTagTypes,
     own: Option<u32>,

@@ -217,7 +217,8 @@ impl GrowingTree {
     /// Folds the operators of an expression. `own` is the number of results of the enclosing function: 0 in a constant
     /// expression, `None` if the function's type is unknown. Returns whether the operators are folded: they are not if
     /// one of them is `try`, `catch`, `catch_all` or `delegate`. On `Ok(true)`, the tree has the nodes of the operators
-    /// and no others (`grown`). The color and the identifiers of `labels` stay, also after an error.
+    /// and no others (`grown`); before the first operator no block was opened (the bare `0`), and no label is open
+    /// (`[] []`). The color and the identifiers of `labels` stay, also after an error.
     ///
     /// # Errors
     ///

@@ -17,7 +17,7 @@ use Rattle.wasmprinter_spec.specs.Layout.{layout, layout_folded, refusal}
 use Rattle.wasmprinter_spec.specs.Read.{read}
 
 -- If the options ask for it, operators are folded by the arities of the table and by the items of the module that
--- they name.
+-- they name, with colors in their text or without, as the options say.
 abbrev pub FoldsByOwnArities : Type 0
 FoldsByOwnArities =
     (m : PlacedModule) (o : Options) (answers : Answers) →

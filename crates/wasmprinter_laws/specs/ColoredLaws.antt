@@ -25,7 +25,8 @@ use Rattle.wasmprinter_laws.specs.NodeLaws.{items_in, nodes_in, with_heads}
 use Rattle.wasmprinter_laws.specs.TreeLaws.{HaveTrees}
 
 -- After the escape sequences are deleted, the text has the nodes of the tree. The text of folded operators has
--- colors or not, and the sequences of all styles are written or not.
+-- colors or not (`color`), and the sequences of all styles are written or not (`styles`). (The other parameters, and
+-- the bare `0 [] []` and `true`, are those of `FoldedGroupsAreNodes`.)
 abbrev pub ColoredGroupsAreNodes : Type 0
 ColoredGroupsAreNodes =
     (s : Setting) → AreNamed s.names → AreSignaturesInRange s.signature →
@@ -38,8 +39,8 @@ ColoredGroupsAreNodes =
     ≡ Some (with_heads (λ h. items_in (head_text o h)) (tree code))
 
 -- After the escape sequences are deleted, the groups of the text of a module with folded operators are the nodes
--- of the module's trees, field by field. The text has colors or not. (The module is foldable, and no
--- `dylink.0` section is refused.)
+-- of the module's trees, field by field. The text has colors within folded operators or not (`o.color`), and the
+-- sequences of all styles or not (`styles`). (The module is foldable, and no `dylink.0` section is refused.)
 abbrev pub ColoredModulesHaveTrees : Type 0
 ColoredModulesHaveTrees =
     (bytes : List ℕ) (m : PlacedModule) (o : Options) (answers : Answers) →

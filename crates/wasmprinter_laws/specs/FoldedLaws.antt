@@ -30,7 +30,9 @@ abbrev pub without_counts : Item → Item
 without_counts x = record x { operands = 0; results = 0 }
 
 -- The text that is laid out for operators folded by any numbers of operands and results, over several lines or in
--- one, with or without hints before them, reads as exactly these operators.
+-- one, with or without hints before them, reads as exactly these operators. (`hs` are the hints of the operators `os`,
+-- and `xs` are these operators with any counts. `0 [] []`: no block was opened before them, and no label is open.
+-- `false`: the text has no colors. `true`: the first node is the first of its line.)
 abbrev pub FoldedOperatorsReadBack : Type 0
 FoldedOperatorsReadBack =
     (s : Setting) → AreApart s.names → AreNamed s.names →

@@ -10,9 +10,10 @@ abbrev pub Opened : LabelNaming → List Label → Type 0
 Opened naming [] = Unit {0}
 Opened naming (x ∷ xs) = ((i : ℕ) × (naming i (length xs) ≡ x)) × (length xs < 2 ^ 64) × Opened naming xs
 
--- The label of a block with an identifier: `xs` are the labels that an operator may mean, `inner` those of blocks
--- further in that it may not. If no block further in was given the same name, the identifier is printed, and a
--- reader finds that very block by it. Otherwise the number is printed.
+-- The label with the number l, whose block has the identifier n: `xs` are the labels that an operator may mean,
+-- `further` those of the blocks among them that are inside this block, `inner` those of blocks further in that it may
+-- not mean. If no block further in was given the same name, the identifier is printed, and a reader finds that very
+-- block by it. Otherwise the number is printed.
 abbrev pub LabelsMeanTheirBlocks : Type 0
 LabelsMeanTheirBlocks =
     (naming : LabelNaming) → AreLabelsApart naming → (inner xs : List Label) → Opened naming xs →

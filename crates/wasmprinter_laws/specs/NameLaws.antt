@@ -24,19 +24,21 @@ abbrev pub EntriesAreGiven : Type 0
 EntriesAreGiven = (d : Placed (List ℕ)) → GivesNames (input d.place d.value) (entries_given d)
 
 -- The items of a counted list that is read up to the first error: they are encoded one after the other. Either the
--- count is reached, or the bytes after them encode no further item.
+-- count is reached, and `end` is the input after them, or the bytes after them encode no further item, and `end` is
+-- `None`: an error.
 abbrev pub IsReadToFirstError : {A : Type 0} → Grammar A → ℕ → Input → List A → Option Input → Type 0
 IsReadToFirstError g n at xs end = (after : Input) × Spans (AreItems g) at (xs, after)
     × (((length xs ≡ n) × (end ≡ Some after)) ⊎ ((length xs < n) × Lacks g after × (end ≡ None)))
 
 -- The entries of a name map are those of a counted list that is read up to the first error. (`repeat (entry s outer) n`
--- is a name map after its count n.)
+-- is a name map after its count n, in the subsection with the id s; `outer` is that of `Entry`.)
 abbrev pub NameMapsEndAtFirstError : Type 0
 NameMapsEndAtFirstError =
     (s outer n : ℕ) (at : Input) (entries : List Entry) (end : Option Input) → (repeat (entry s outer) n).gives at entries end
     → (xs : List (ℕ × List ℕ)) × IsReadToFirstError association n at xs end × (entries ≡ map (λ x. entry_of s outer x) xs)
 
--- An entry has an index of 32 bits and a name in UTF-8.
+-- An entry has an index of 32 bits and a name in UTF-8. Of a local, a label or a field, this is the index within its
+-- function or type; nothing is said of `outer`.
 pub record IsEntry (e : Entry) : Type 0 where
   pub index : IsU32 e.index
   pub name : IsUtf8 e.name
@@ -51,7 +53,8 @@ BytesGiveEntries = (at : Input) (entries : List Entry) → AreBytes at.bytes →
 
 -- ---- identifiers
 
--- No identifier means two items of one space, whether identifiers are synthesized for items without names or not.
+-- No identifier means two items of one space, whether identifiers are synthesized for items without names or not. Two
+-- labels of which one may be nested in the other share an identifier only if they were given the same name.
 abbrev pub IdentifiersAreApart : Type 0
 IdentifiersAreApart = (synthesizes : Bool) (entries : List Entry) → AreEntries entries → AreApart (names_of synthesizes entries)
 
@@ -61,7 +64,7 @@ abbrev pub IdentifiersAreNamed : Type 0
 IdentifiersAreNamed = (synthesizes : Bool) (entries : List Entry) → AreEntries entries → AreNamed (names_of synthesizes entries)
 
 -- The identifiers of each module that bytes encode are UTF-8 and not empty, and none means two items of one space, of
--- one function or of one type.
+-- one function or of one type. Labels are as in `IdentifiersAreApart`.
 abbrev pub ModulesHaveIdentifiers : Type 0
 ModulesHaveIdentifiers = (bytes : List ℕ) (m : PlacedModule) (synthesizes : Bool) → Spells bytes m →
     AreApart (module_names synthesizes m) × AreNamed (module_names synthesizes m)

@@ -87,7 +87,9 @@ with_heads make (Snoc before head results held) = Snoc (with_heads make before) 
 
 -- The nodes of the text of folded operators are those of their tree: one group for each node, in the same order and
 -- at the same depth. The items of a group before its inner nodes are those that the text of its operator reads as,
--- or the word `then` or `else`.
+-- or the word `then` or `else`. (`hs` are the hints of the operators `os`, and `xs` are these operators with any
+-- counts. `0 [] []`: no block was opened before them, and no label is open. `false`: the text has no colors. `true`:
+-- the first node is the first of its line. Items are compared as `Some`, since `items_in` returns an `Option`.)
 abbrev pub FoldedGroupsAreNodes : Type 0
 FoldedGroupsAreNodes =
     (s : Setting) → AreNamed s.names → AreSignaturesInRange s.signature →

@@ -43,8 +43,9 @@ pub record HaveSameTypes (s : Setting) (c : Context) (n : Counts) : Type 0 where
   pub counted : (i : ℕ) → n.signature i ≡ s.signature i
   pub in_range : AreSignaturesInRange s.signature
 
--- They also have the same identifiers: those of all counted items. A type with a signature or fields is a counted
--- type, and so are the types that a signature names.
+-- They also have the same identifiers: those of all counted items, in the function of the setting. No space has more
+-- than 2 ^ 64 items, and no type more than 2 ^ 64 fields. A type with a signature or fields is a counted type, and so
+-- are the types that a signature names.
 pub record HaveSameNames (s : Setting) (c : Context) (n : Counts) : Type 0 where
   pub spaces : (space : Space) → space_in c.spaces space ≡ identifiers (in_function s.names s.function space) (count_in n space)
   pub fields : (t : ℕ) (fs : List FieldType) → n.fields t ≡ Some fs → c.fields t ≡ identifiers (s.names.fields t) (length fs)

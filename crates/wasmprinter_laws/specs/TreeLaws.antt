@@ -56,7 +56,7 @@ abbrev pub tree_of : Setting → Signatures → List (Placed Hint) → List (Pla
 tree_of s signatures hs os = option_map tree (nested_code_of (items s signatures hs 0 [] [] os))
 
 module _ (m : PlacedModule) where
-  -- The tree of a constant expression at this nesting depth
+  -- The tree of a constant expression at this nesting depth, without hints (`[]`) and in a function without results
   abbrev pub constant_tree : Scope → ℕ → List (Placed Operator) → Option Nodes
   constant_tree s nesting os = tree_of (in_line s nesting) (signatures_within m (Some 0)) [] os
 
@@ -98,7 +98,8 @@ tree_scope synthesizes m =
     scope_of (all_types (groups_of m.types)) (module_names synthesizes m) (length (imported_types func_import (without_places m.imports))) None
 
 -- The nodes in the fields of a text are those of the module's trees: a function has those of its body, a global and
--- a table those of their initialisers, and a segment those of its offset and of its items.
+-- a table those of their initialisers, and a segment those of its offset and of its items. (The bare 2 is a nesting
+-- depth; the bare `false`: the text is not a skeleton, so it has the items.)
 pub record HaveTrees (synthesizes : Bool) (m : PlacedModule) (fs : Fields) : Type 0 where
   pub tables : AreAlike AreNodesOf (map field_nodes fs.tables) (map (λ t. init_tree m (tree_scope synthesizes m) t.value.init) m.tables)
   pub globals : AreAlike AreNodesOf (map field_nodes fs.globals) (map (λ g. constant_tree m (tree_scope synthesizes m) 2 g.value.init) m.globals)

@@ -32,7 +32,7 @@ pub fn colored_text_keeps()
 {}
 
 /// After the escape sequences are deleted, the groups of folded text are the nodes of its tree. The text has colors
-/// within folded operators or not, and the sequences of every style or not.
+/// within folded operators or not (`color`), and the sequences of every style or not (`styles`).
 /// [`folded_groups_are_nodes`](crate::folded_groups_are_nodes) says the same of the text without colors.
 ///
 /// The premises: the operators have a tree. The table lists each with immediates of its shape, whose numbers are in
@@ -43,7 +43,8 @@ pub fn colored_groups_are_nodes()
 {}
 
 /// After the escape sequences are deleted, the groups of the text of a module with folded operators are the nodes
-/// of its trees, field by field. The text has colors or not. The other conditions are those of
+/// of its trees, field by field. The text has colors within folded operators or not (`color` of the options), and the
+/// sequences of every style or not (`styles`). The other conditions are those of
 /// [`folded_modules_have_trees`](crate::folded_modules_have_trees).
 pub fn colored_modules_have_trees()
     ensures { ColoredModulesHaveTrees }

@@ -13,7 +13,7 @@ ghost use Rattle.wasmprinter_laws.specs.TreeLaws.{FoldedModulesHaveTrees};
 
 /// An operator that needs `n` operands, with `n` above 0, takes the shortest run of last nodes before it whose
 /// results sum up to exactly `n`. It takes none if the first sum that reaches `n` is greater than `n`, or if all
-/// nodes together have fewer than `n` results. The sums saturate.
+/// nodes together have fewer than `n` results. The sums saturate at 2^32 - 1.
 pub fn operands_are_the_shortest_run()
     ensures { OperandRule }
 {}
@@ -41,9 +41,9 @@ pub fn folding_loses_nothing()
     ensures { UnfoldingRule }
 {}
 
-/// A list of operators has a folded layout if it is well nested and no operator is `try`, `catch`, `catch_all` or
-/// `delegate` (`folded`), and only then (`only`). This holds for any options, names, hints, and types of the items that
-/// the operators name.
+/// A list of operators, without the `end` after the list, has a folded layout if it is well nested and no operator is
+/// `try`, `catch`, `catch_all` or `delegate` (`folded`), and only then (`only`). This holds for any options, names, hints,
+/// numbers of operands and results, and types of the items that the operators name, with colors in the text or without.
 pub fn nested_operators_are_folded()
     ensures folded { (s : Setting) (signatures : Signatures) → NestedListsAreFolded s signatures }
     ensures only { (s : Setting) (signatures : Signatures) → FoldedListsAreNested s signatures }

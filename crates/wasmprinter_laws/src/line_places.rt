@@ -23,30 +23,34 @@ pub fn lines_begin_after_feeds()
     ensures { LinesBeginAfterFeeds }
 {}
 
-/// If bytes encode a module, the places of its bodies, of their locals, operators and last `end`s increase, and all
-/// are in one interval of byte offsets. No other item that begins a line has its place in that interval.
+/// If bytes encode a module, the places of its bodies (their first bytes), of their locals (the first entry that
+/// declares one), operators and last `end`s increase, and all are in one interval of byte offsets. No other item that
+/// begins a line has its place in that interval, which contains neither the module's first byte nor the end of its
+/// bytes.
 pub fn bodies_lie_apart()
     ensures { BodiesLieApart }
 {}
 
 /// If bytes encode a module, its bodies are printed flat (`skeleton` and folding are off) and no `dylink.0` section is
-/// refused, these have one line each, in this order: the header of each function, with the place of its body; its
-/// locals, if it has any, with the place of the first entry that declares one; and each of its operators before the
-/// last `end`, with its place. No other line begins with the same place. Only lines of branch hints come between these
-/// lines. All other options are arbitrary, and so are the printer's answers to its claims.
+/// refused, these have one line each, in this order: the header of each function, with the place of the first byte of
+/// its body, after its size; its locals, if it has any, with the place of the first entry that declares one; and each
+/// of its operators before the last `end`, with its place. No other line begins with the same place. Only lines of
+/// branch hints come between these lines. All other options are arbitrary, and so are the printer's answers to its
+/// claims.
 pub fn functions_have_lines()
     ensures { FunctionsHaveLines }
 {}
 
 /// If a line is found for an operator, the operator exists, the returned place is the operator's place, and the line
-/// begins with it. This holds for any lines, also for lines that are not those of the module.
+/// begins with it. This holds for any lines, also for lines that are not those of the module. An operator is given by
+/// the number `i` of its function, without imports, and its number `j` in the body, before the last `end`, both from 0.
 pub fn finds_places()
     ensures { FindsPlace }
 {}
 
 /// If bytes encode a module, its bodies are printed flat and no `dylink.0` section is refused, the line of each
 /// operator is found in the module's lines. It is the only line with the operator's place. For an operator that does
-/// not exist, no line is found.
+/// not exist, no line is found. Operators are given as in [`finds_places`].
 pub fn finds_lines()
     ensures { FindsLine }
 {}

@@ -25,7 +25,9 @@ pub fn name_maps_end_at_the_first_error()
     ensures { NameMapsEndAtFirstError }
 {}
 
-/// Each entry that the bytes of a name section give has an index of 32 bits and a name in UTF-8.
+/// Each entry that the bytes of a name section give has an index of 32 bits and a name in UTF-8. For a local, a label
+/// or a field this is the index within its function or type. The index of that function or type itself (`outer`) is
+/// not bounded by this law.
 pub fn name_sections_give_entries()
     ensures { BytesGiveEntries }
 {}

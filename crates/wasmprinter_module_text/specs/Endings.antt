@@ -38,5 +38,8 @@ AgreesWithRefusal (Err e) refused = ErrorAgreesWithRefusal e refused
 -- failed, whose error is then returned, or if an allocation failed while operators were folded. A refusal (an unknown
 -- subsection of `dylink.0`), if there is one, is returned after all calls. Nothing else is returned as an error.
 pub record PrintsLaid {P T : Type 0} (printer : Change P) (o : Options) (r : Result T Error) (l : Laid) : Type 0 where
+  -- The calls that were made. How they end depends on the result.
   pub made : MadeCalls printer.meaning printer.old printer.new (ending_by o.folds r) (all_calls o l.pieces)
+  -- After `Ok`, no section of the layout is refused. `DylinkSubsection` has the id for which one is. (After `Printer` or
+  -- `Memory`, nothing is said.)
   pub refused : AgreesWithRefusal r l.refused

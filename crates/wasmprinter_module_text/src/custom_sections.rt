@@ -49,11 +49,12 @@ fn write_treatment<O: Output>(out: &mut O, entry: &CustomEntry<'_>, treatment: C
     }
 }
 
-/// Asks the printer whether it claims the section, and writes the section if it does not. Nothing is written for a
-/// section `name` or `metadata.code.branch_hint`, whatever its data. If the data of a section `producers` or `dylink.0`
-/// is malformed, a comment line reports this, and the section is written as raw bytes. Ends the layout at a `dylink.0`
-/// section with an unknown subsection before its first error, unless the printer claims it. `answer` is the printer's
-/// answer.
+/// Asks the printer whether it claims the section, and writes the section if it does not. `answer` is the printer's
+/// answer. Nothing is written for a section `name` or `metadata.code.branch_hint`, whatever its data. A section
+/// `producers` or `dylink.0` is written by its fields or subsections, and any other as raw bytes. If the data of
+/// `producers` or `dylink.0` is malformed, a comment line reports this, and the section is written as raw bytes. So is,
+/// without this line, `producers` with a field whose name is empty or not of identifier characters. Ends the layout at
+/// a `dylink.0` section with an unknown subsection before its first error, unless the printer claims it.
 pub fn write_custom<O: Output>(out: &mut O, entry: &CustomEntry<'_>)
     ensures { (answer : Bool) × O.laid out.old out.new (custom_part O.chosen.skeleton answer entry.now ∷ []) }
 {
@@ -73,7 +74,7 @@ fn comes_after(entry: &CustomEntry<'_>, after: Option<SectionKind>) -> bool
 
 /// Writes the custom sections that come after a section of the kind or, for `None`, before all others. Ends the
 /// layout at the first section that is refused. Each is written as [`write_custom`] does. `answers` are the printer's
-/// answers whether it claims each of them, by the position of the section in `customs`.
+/// answers whether it claims each of them, by the position of the section in `customs`, from 0.
 pub fn write_customs<O: Output>(
     out: &mut O,
     customs: &[CustomEntry<'_>],

@@ -71,8 +71,9 @@ fn write_nested<O: FoldingOutput>(
     );
 }
 
-/// Writes a constant expression in a field, at nesting depth 2: folded if the options ask for it, otherwise flat.
-/// `scope` is working memory and means the same afterwards.
+/// Writes a constant expression in a field, flat or folded, as [`write_flat_or_folded`] does. A line begins in it only
+/// if the text of a node without children contains `;;`. Only then its nesting depth, 2, matters. `scope` is working
+/// memory and means the same afterwards.
 pub fn write_constant<O: FoldingOutput>(
     out: &mut O,
     scope: &mut Scope<'_, '_>,
@@ -138,8 +139,8 @@ fn write_group_parts<O: FoldingOutput>(
 }
 
 /// Writes a constant expression as a group, at nesting depth 2. The group begins with the keyword unless the expression
-/// is a single operator. If a line begins in it, the group closes on a line of its own. `scope` is working memory and
-/// means the same afterwards.
+/// is a single operator, which is never folded. Any other is written as by [`write_constant`], one level deeper. If a
+/// line begins in it, the group closes on a line of its own. `scope` is working memory and means the same afterwards.
 #[tactic(auto, unfolding(wasmprinter_spec::specs::Layout::Expressions::constant_group))]
 pub fn write_constant_group<O: FoldingOutput>(
     out: &mut O,

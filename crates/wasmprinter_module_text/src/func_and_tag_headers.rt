@@ -9,8 +9,9 @@ use crate::printing_scope::{Scope, write_declaration_in, write_type_use_in};
 use wasmprinter_custom::Space;
 use wasmprinter_print::Output;
 
-/// Writes the header of a function: its declaration, a space and its type. The parameters have the identifiers of the
-/// function with the index `number`.
+/// Writes the header of the function with the index `number`: its declaration, a space and its type, as an index and,
+/// if that is of a function type, with parameters and results. The parameters have the identifiers of that function's
+/// locals (`Some number`).
 #[tactic(auto, unfolding(wasmprinter_spec::specs::Layout::Functions::header_pieces))]
 pub fn write_function_header<O: Output>(
     out: &mut O,
@@ -25,8 +26,8 @@ pub fn write_function_header<O: Output>(
     write_type_use_in(out, scope, Some(number), type_index);
 }
 
-/// Writes the header of the tag with the index `number`: its declaration, a space and its type. The parameters have no
-/// identifiers.
+/// Writes the header of the tag with the index `number`: its declaration, a space and its type, as an index and, if
+/// that is of a function type, with parameters and results. The parameters have no identifiers (`None`).
 #[tactic(auto, unfolding(wasmprinter_spec::specs::Layout::Functions::header_pieces))]
 pub fn write_tag_header<O: Output>(out: &mut O, scope: &Scope<'_, '_>, number: u64, type_index: u32)
     ensures { O.wrote out.old out.new

@@ -99,8 +99,10 @@ fn write_definition<O: FoldingOutput>(
     );
 }
 
-/// Writes the function with the index `number` as a group on a line of its own, its operators with these hints. A
-/// skeleton leaves out the body. `scope` is working memory and means the same afterwards.
+/// Writes the function with the index `number` (imports counted) as a group on a line of its own: its header, its
+/// locals and, as [`write_flat_or_folded`] does, its operators with these hints. The group closes on a line of its own
+/// if a line begins in it or if the options show the place of each line. A skeleton has `...` in place of locals and
+/// operators, and closes on the same line. `scope` is working memory and means the same afterwards.
 #[tactic(auto, unfolding(wasmprinter_spec::specs::Layout::Functions::function_pieces, wasmprinter_spec::specs::Layout::Functions::function_group, wasmprinter_spec::specs::Layout::Groups::group_space_at))]
 pub fn write_function<O: FoldingOutput>(
     out: &mut O,

@@ -52,7 +52,8 @@ fn print_by<'s, 'a, P: Print, K: LayoutOptions>(
 }
 
 /// Prints a module. `labels` also holds the identifiers of the module. If operators are folded, a list with a legacy
-/// operator is left out, and so is a hint that can't be folded; `check_folding` refuses both.
+/// operator (`try`, `catch`, `catch_all`, `delegate`) is left out, and so is a hint on an `else` or `end`.
+/// `check_folding` refuses both, and also a hint on a `block`, `loop` or `try_table`, which is written before its node.
 ///
 /// On `Ok`, the calls of the module's layout were made, up to how text is split into calls, and no `dylink.0` section
 /// is refused. `answers` in the contract are the printer's answers whether it claims each custom section. The text of

@@ -12,9 +12,11 @@ use wasmprinter_ops::expression::Expression;
 use wasmprinter_print::FoldingOutput;
 use wasmprinter_text::type_use::Signatures;
 
-/// Writes the operators of an expression, each after its hint if it has one. They are folded if the options ask for
-/// it and there is a folder. `results` is the number of results of the enclosing function: 0 in a constant expression,
-/// `None` if the function's type is unknown. The folder and the identifiers stay; the labels are working memory.
+/// Writes the operators of an expression, each after the next of `hints` if the offset of that hint from `setting.body`
+/// is the operator's. They are folded if the options ask for it and there is a folder. Then nothing is written of a
+/// list with a legacy operator (`try`, `catch`, `catch_all`, `delegate`), and no hint on an `else` or `end`. `results`
+/// is the number of results of the enclosing function: 0 in a constant expression, `None` if the function's type is
+/// unknown. The folder and the identifiers stay; the labels are working memory.
 #[tactic(auto, unfolding(wasmprinter_spec::specs::Layout::Functions::body_by))]
 pub fn write_flat_or_folded<O: FoldingOutput, S: Signatures>(
     out: &mut O,

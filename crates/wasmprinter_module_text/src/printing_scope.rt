@@ -60,7 +60,7 @@ pub struct Scope<'s, 'a> {
 
 impl<'s, 'a> Scope<'s, 'a> {
     /// Returns the identifiers of the module: those of this scope for all items (`all`), and so for each single item of
-    /// the module (`items`).
+    /// the module (`items`). There, 0 is the function or type that only locals, labels and fields have.
     pub fn identifiers(&self) -> Identifiers<'s, 'a>
         ensures all { names_of_identifiers result ≡ names_of self.now.labels }
         ensures items { (space : Space) (n : ℕ) → item_of result space 0 n ≡ item_in self.now.labels space n }
@@ -69,8 +69,8 @@ impl<'s, 'a> Scope<'s, 'a> {
     }
 }
 
-/// Writes the declaration of an item of the module: its identifier and name, if it has them, and a comment with its
-/// index.
+/// Writes the declaration of an item of the module: its identifier, if it has one, its name, if that is not the
+/// identifier, and a comment with its index. `number` is the index.
 pub fn write_declaration_in<O: Output>(
     out: &mut O,
     scope: &Scope<'_, '_>,
@@ -91,7 +91,8 @@ pub fn write_index_in<O: Output>(out: &mut O, scope: &Scope<'_, '_>, space: Spac
     write_index_of(out, &scope.identifiers(), space, 0, u64::from(index));
 }
 
-/// Writes a group of a keyword and an index of an item of the module.
+/// Writes a group within one line: the keyword, a space and the index of an item of the module as [`write_index_in`]
+/// writes it.
 pub fn write_index_group_in<O: Output>(
     out: &mut O,
     scope: &Scope<'_, '_>,
@@ -135,7 +136,7 @@ pub fn write_val_type_in<O: Output>(out: &mut O, scope: &Scope<'_, '_>, value_ty
     types::write_val_type(out, &scope.identifiers(), value_type);
 }
 
-/// Writes the definition of the type with the given index.
+/// Writes the type with the index `number` as a group: its declaration, a space and its definition, `sub_type`.
 pub fn write_type_in<O: Output>(
     out: &mut O,
     scope: &Scope<'_, '_>,

@@ -31,8 +31,8 @@ impl Field for Start {
     }
 }
 
-/// Writes a new line and the field of the start function, if there is one. `scope` is working memory and means the
-/// same afterwards.
+/// Writes a new line and the field of the start function, if there is one, with the function's identifier or, if it has
+/// none, its index. `scope` is working memory and means the same afterwards.
 #[tactic(auto, unfolding(wasmprinter_spec::specs::Layout::Start::start_pieces))]
 pub fn write_start<O: FoldingOutput>(out: &mut O, scope: &mut Scope<'_, '_>, start: Option<Start>)
     ensures pieces { O.wrote out.old out.new

@@ -110,7 +110,8 @@ fn write_group<O: Output>(out: &mut O, scope: &Scope<'_, '_>, group: &TypeGroup<
     write_group_after(out, scope, group, first);
 }
 
-/// Writes groups of types. The types of all groups are indexed consecutively, from 0, and must be fewer than 2^64.
+/// Writes groups of types, each on a new line. The types of all groups are indexed consecutively, from 0, and must be
+/// fewer than 2^64. Each type of an explicit `(rec ..)` is on a line of its own.
 pub fn write_type_groups<O: Output>(out: &mut O, scope: &Scope<'_, '_>, groups: &[TypeGroup<'_>])
     requires { length (all_types (groups_of groups.now)) < 2 ^ 64 }
     ensures { O.wrote out.old out.new (type_section_pieces (names_of scope.now.labels) 0 groups.now) }

@@ -12,10 +12,10 @@ source_null flags = flags % 2 == 1
 abbrev pub target_null : ℕ → Bool
 target_null flags = flags / 2 % 2 == 1
 
--- The first reference type of a cast.
+-- The first reference type of a cast with these flags: to this heap type, nullable if bit 0 of the flags is set.
 abbrev pub source_type : ℕ → HeapType → RefType
 source_type flags heap = ref_type (source_null flags) (heap_view heap)
 
--- The second reference type of a cast.
+-- The second reference type of a cast with these flags: to this heap type, nullable if bit 1 of the flags is set.
 abbrev pub target_type : ℕ → HeapType → RefType
 target_type flags heap = ref_type (target_null flags) (heap_view heap)

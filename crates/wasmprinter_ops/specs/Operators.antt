@@ -60,8 +60,8 @@ pub record OperatorsAndEnd (old : Input) (end : ℕ) (new : Input) : Type 0 wher
   pub skipped : Spans (Entries (value_with_place operator)) old (items, before)
   pub is : expression.parse old ≡ Some (record { items = items; end = end }, new)
 
--- The bytes encode operators of an expression up to one that opens a block. No operator before
--- it closes the expression.
+-- The bytes encode operators of an expression (`items`) up to one that opens a block (`opener`). No operator before it
+-- closes the expression, and they are well nested so far (`goes_on`).
 pub record ReachesBlock (at : Input) : Type 0 where
   pub items : List (Placed Operator)
   pub before : Input

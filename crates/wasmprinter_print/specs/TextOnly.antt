@@ -30,6 +30,7 @@ text_only writes = record {
 abbrev pub Grows : {P : Type 0} → (P → List ℕ) → Writes P → Type 0
 Grows {P} view writes = (old : P) (bytes : List ℕ) (new : P) → writes old bytes (Ok tt) new → view new ≡ view old ++ bytes
 
--- The view of the printer grows by the text of the calls.
+-- If all these calls succeed, the view of the printer grows by their text. Lines, styles and claims have no text, and a
+-- line feed has the byte 10.
 abbrev pub TextIsGained : {P : Type 0} → (P → List ℕ) → Writes P → Type 0
 TextIsGained {P} view writes = (old : P) (calls : List Call) (new : P) → Run (text_only writes) old calls new → view new ≡ view old ++ text_of calls

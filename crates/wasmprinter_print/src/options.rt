@@ -52,8 +52,8 @@ impl PrintOptions {
     ghost use Rattle.wasmprinter_spec.specs.Options.{defaults};
     ghost use Rattle.wasmprinter_spec.specs.Piece.{most_indents, repetition_of};
 
-    /// Returns the default options: no places before lines, complete bodies, no synthesized identifiers, no
-    /// folding, and an indentation of two spaces.
+    /// Returns the default options: no places before lines, complete bodies, no synthesized identifiers, no folding,
+    /// and an indentation of two spaces. The option `color`, which no `PrintOptions` holds, is `false`.
     pub fn new() -> PrintOptions
         ensures { result ≡ defaults }
     {

@@ -48,8 +48,8 @@ impl<'o, 'p, P, K: LayoutOptions> Printer<'o, 'p, P, K> {
         }
     }
 
-    /// Ends the output, so that its printer can be used again, in the state that it has now (`printer`). Returns the
-    /// error that was recorded, if any (`result`).
+    /// Ends the output, so that its printer can be used again, in the state that it has now (`printer`: `self.exit.0`
+    /// is the reference to the printer at the return). Returns the error that was recorded, if any (`result`).
     ///
     /// # Errors
     ///

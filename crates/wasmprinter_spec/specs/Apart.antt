@@ -60,8 +60,8 @@ treatment_places _ = []
 abbrev pub custom_places : CustomEntry → List ℕ
 custom_places c = c.section.place ∷ (c.section.value.bytes.place ∷ treatment_places (custom_treatment_of c.section.value))
 
--- The bodies are in an interval, one after the other, and the places of each increase. All other places that begin
--- lines are outside the interval, as are the module's first byte and the end of its bytes.
+-- The bodies are in an interval, from `low` on and below `high`, one after the other, and the places of each increase.
+-- All other places that begin lines are outside the interval, as are the module's first byte and the end of its bytes.
 pub record IsApart (m : PlacedModule) : Type 0 where
   pub low : ℕ
   pub high : ℕ

@@ -23,7 +23,8 @@ look_of TypeName = Some (strong_look 2)
 look_of Comment = Some (color_look 6)
 look_of Reset = None
 
--- The bytes of one call: those of a text, a line feed, and the sequences of a style.
+-- The bytes of one call: those of a text, a line feed, or the sequences of a style: a reset and then, if the style has
+-- them, those for bold and for its color.
 abbrev pub colored_bytes : Call → List ℕ
 colored_bytes (Text bytes) = bytes
 colored_bytes Newline = 10 ∷ []

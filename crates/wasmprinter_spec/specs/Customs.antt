@@ -45,7 +45,9 @@ dylink_treatment (Whole subsections) = DylinkSubsections subsections
 dylink_treatment (Unknown id) = Refused id
 dylink_treatment Faulty = Malformed
 
--- The treatment of a custom section, by its name and, for `producers` and `dylink.0`, by its data.
+-- The treatment of a custom section, by its name and, for `producers` and `dylink.0`, by its data. If that data has an
+-- error, it is `Malformed`, but `Refused` if an unknown subsection of `dylink.0` comes first; it is `Raw` if the name of a
+-- field of `producers` is empty or has characters that identifiers can't have.
 abbrev pub custom_treatment_of : Custom → CustomTreatment
 custom_treatment_of c =
     if bytes_eq c.name name_section then Silent else

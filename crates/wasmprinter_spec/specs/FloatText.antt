@@ -44,11 +44,12 @@ unfoldable pub doublings : ℕ → ℕ → ℕ → ℕ
 doublings zero limit n = 0
 doublings (suc most) limit n = cond (nat_lt n limit) (suc (doublings most limit (2 * n))) 0
 
--- The number of bits by which a fraction is shifted to a leading 1.
+-- The number of bits by which a fraction is shifted left, until its highest 1 is directly above the bits of the
+-- fraction.
 abbrev pub shift : Width → ℕ → ℕ
 shift w fraction = doublings w.fraction (2 ^ w.fraction) fraction
 
--- The fraction after that 1.
+-- The fraction after this shift, without that 1.
 abbrev pub shifted_fraction : Width → ℕ → ℕ
 shifted_fraction w fraction = fraction * 2 ^ shift w fraction - 2 ^ w.fraction
 

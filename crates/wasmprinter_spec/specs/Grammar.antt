@@ -248,7 +248,7 @@ module _ {A : Type 0} (g : Grammar A) where
       let moved : ℕ → Option (Placed A × Input) = λ p. Some (record { place = p; value = x.0.value }, x.1) in
       rw e (ap moved (sym s.spelled.0))
 
-  -- The values of g, each with its place.
+  -- The values of g, each with the place of its first byte.
   abbrev pub value_with_place : Grammar (Placed A)
   value_with_place =
       record { spells = IsPlaced; parse = value_with_place_at; sound = value_with_place_sound; complete = value_with_place_complete }

@@ -311,7 +311,7 @@ said p text x s =
       (t, end_byte ∷ [], joined, items, (refl, end_spelled (p + length t)), stops-roles x.items last at_start ∙ end),
     )
 
--- An expression: operators, each with its place, and the byte 0B of the last `end`, with its place.
+-- An expression: well-nested operators, each with its place, and the byte 0B of the last `end`, with its place.
 abbrev pub expression : Grammar (Closed (Placed Operator))
 expression = with_spelling closed_grammar IsExpression says said
 

@@ -52,10 +52,12 @@ abbrev pub FloatTextReads : Type 0
 FloatTextReads = ((bits : ℕ) → bits < 2 ^ 32 → FloatReads single bits) × ((bits : ℕ) → bits < 2 ^ 64 → FloatReads double bits)
 
 -- A number reads as the bits of the finite float that is equal to it, and as no bits if there is no such float.
+-- (`Some s`: the word is a hexadecimal number with the value s.)
 abbrev pub FloatsAreExact : Type 0
 FloatsAreExact = (w : Width) (s : Scaled) (bits : ℕ) → IsWidth w → (bits_with_value w (Some s) ≡ Some bits) ↔ IsValue w bits s
 
--- The reader's test of nesting accepts operators exactly if they are well nested.
+-- The reader's test of nesting accepts operators exactly if they are well nested. (It returns those that it accepts.
+-- `Sequence`: they are a row of operators and blocks, not the handlers of a `try`.)
 abbrev pub TakesNested : Type 0
 TakesNested = (os : List Operator) → (if_nested os ≡ Some os) ↔ Nests Sequence (map (λ o. role_of o.opcode) os)
 
@@ -121,7 +123,8 @@ abbrev pub PlainTextsJoin : Type 0
 PlainTextsJoin = (a b : List ℕ) → IsPlainText a → IsPlainText b → IsPlainText (a ++ b)
 
 -- If the branch hints of a module are valid, they are those of its printed text: each once, directly before its
--- operator.
+-- operator or the group of its operator. A hint has the index of its function, its operator's number in the body, and
+-- whether the branch is likely.
 abbrev pub HintsStay : Type 0
 HintsStay =
     (bytes : List ℕ) (m : PlacedModule) (o : Options) (answers : Answers) (hs : List OperatorHint) →

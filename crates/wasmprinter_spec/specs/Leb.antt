@@ -77,7 +77,7 @@ unsigned_complete bits at x s =
     rw s.parts
     (unsigned_complete_of s.text bits at.place x.0 x.1.bytes s.spelled ∙ ap (λ (q : ℕ). Some (x.0, input q x.1.bytes)) (sym s.ends))
 
--- Unsigned integers of the given number of bits.
+-- Unsigned integers of the given number of bits, in at most ceil(bits / 7) bytes, needed or not.
 abbrev pub unsigned : ℕ → Grammar ℕ
 unsigned bits = record { spells = Unsigned bits; parse = unsigned_at bits; sound = unsigned_sound bits; complete = unsigned_complete bits }
 
@@ -173,6 +173,6 @@ signed_complete bits at x s =
     rw s.parts
     (signed_complete_of s.text bits at.place x.0 x.1.bytes s.spelled ∙ ap (λ (q : ℕ). Some (x.0, input q x.1.bytes)) (sym s.ends))
 
--- Signed integers of the given number of bits.
+-- Signed integers of the given number of bits, in at most ceil(bits / 7) bytes, needed or not.
 abbrev pub signed : ℕ → Grammar ℤ
 signed bits = record { spells = Signed bits; parse = signed_at bits; sound = signed_sound bits; complete = signed_complete bits }

@@ -30,7 +30,8 @@ HasNoEmptyInit None = Unit {0}
 HasNoEmptyInit (Some []) = ⊥
 HasNoEmptyInit (Some (o ∷ os)) = Unit {0}
 
--- The module is within the limits.
+-- The module is within the limits: no table has an empty initialiser, each defined function has at most `most_locals`
+-- locals, not counting parameters, and the module defines at most `most_functions` functions.
 pub record IsWithinLimits (m : PlacedModule) : Type 0 where
   pub tables : AllByRecursion (λ t. HasNoEmptyInit t.value.init) m.tables
   pub locals : AllByRecursion HasFewLocals m.functions

@@ -98,11 +98,12 @@ abbrev pub line_from : ℕ → ℕ → List TextLine → Option ℕ
 line_from number place [] = None
 line_from number place (line ∷ lines) = cond (has_place place line.0) (Some number) (line_from (number + 1) place lines)
 
--- The operator with this number, of the defined function with this number.
+-- The operator with this number, of the defined function with this number. The order is: module, function, operator.
 abbrev pub operator_at : PlacedModule → ℕ → ℕ → Option (Placed Operator)
 operator_at m function operator = slice_get m.functions function >>= λ f. slice_get f.body.value.operators operator
 
--- The number of the operator's line, and the operator's place.
+-- The number, from 0, of the first line with the operator's place, and that place; `None` if there is no such operator
+-- or line. The order is: module, lines, number of the defined function, number of the operator in it, both from 0.
 abbrev pub place_of : PlacedModule → List TextLine → ℕ → ℕ → Option (ℕ × ℕ)
 place_of m lines function operator =
     operator_at m function operator >>= λ o. line_from 0 o.place lines >>= λ number. Some (number, o.place)

@@ -14,7 +14,7 @@ entries_given d = ((subsections (length d.value)).read (input d.place d.value)).
 abbrev pub custom_entries : Custom → List Entry
 custom_entries c = if bytes_eq c.name name_section then entries_given c.bytes else []
 
--- The entries of all name sections, in order.
+-- The entries of all name sections, in order, of each section those before its first error.
 abbrev pub name_entries : List CustomEntry → List Entry
 name_entries [] = []
 name_entries (c ∷ cs) = custom_entries c.section.value ++ name_entries cs

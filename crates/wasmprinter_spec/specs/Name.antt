@@ -18,6 +18,6 @@ vec g = vec_of u32 g
 abbrev pub checked_text : List ℕ → Option (List ℕ)
 checked_text bytes = if is_utf8 bytes then Some bytes else None
 
--- A name: a length n, and then n bytes, which must be UTF-8.
+-- A name: a length n, and then n bytes, which must be UTF-8. The value is these n bytes.
 abbrev pub name : Grammar (List ℕ)
 name = try_map checked_text (map_value (λ x. x.1) (seq u32 (λ n. take_bytes n)))

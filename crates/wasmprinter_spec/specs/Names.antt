@@ -48,11 +48,12 @@ or_synthesized synthesizes group index (Some n) = Some n
 or_synthesized true group index None = Some (record { given = None; content = index_content group index })
 or_synthesized false group index None = None
 
--- The name of each item, by the id of the subsection, the function or type, and the index.
+-- The name of each item, by the id of the subsection, the function or type (0 for items of neither), and the index.
 abbrev pub Naming : Type 0
 Naming = ℕ → ℕ → ℕ → Option Named
 
--- The identifier of an item, given the names of all items.
+-- The identifier of an item, which is found as in `Naming`: that of its name in `named` or, if it has none, a
+-- synthesized one if `synthesizes` is true, and otherwise `None`.
 abbrev pub name_in : Bool → Naming → Naming
 name_in synthesizes named s outer index = or_synthesized synthesizes (group_of s) index (named s outer index)
 

@@ -10,7 +10,8 @@ pub data FramePart : Type 0 where
   Handlers : FramePart
 
 -- The roles are well nested: block .. end, if .. end, if .. else .. end, try .. (catch ..)* (catch_all ..)? end,
--- try .. delegate.
+-- try .. delegate. `Nests Sequence` says this of a sequence in which each block is closed, `Nests Handlers` of the handlers
+-- of a `try`: each `catch` and `catch_all` with its operators, without the `end`.
 pub data Nests : FramePart → List Role → Type 0 where
   none : Nests Sequence []
   plain : {rest : List Role} → Nests Sequence rest → Nests Sequence (Plain ∷ rest)

@@ -11,7 +11,8 @@ use Rattle.wasmprinter_spec.specs.Quoted.{char_text, quoted_text, quoted_bytes, 
 use Rattle.wasmprinter_spec.specs.Token as token
 use Rattle.wasmprinter_spec.specs.Token.{Token}
 
--- A piece of a layout.
+-- A piece of a layout. The text of a comment is that between its delimiters `(;` and `;)`, or after `;;` and a space. A
+-- block comment with `true` has the style of comments, with `false` none.
 pub data Piece : Type 0 where
   Begin : ℕ → Piece  -- the first line begins, at this place
   EndLine : Piece  -- the last line ends

@@ -34,7 +34,8 @@ FunctionsHaveLines =
     HasFunctionLines (hint_places m) (line_places (lines_of (layout o answers m))) f
 
 -- If a line is found for an operator, in any lines, then there is such an operator, the place is its place, and
--- the line begins with that place.
+-- the line begins with that place. (The function has the number i among the defined functions, the operator the number
+-- j in its body, and the line the number `number`, all from 0.)
 abbrev pub FindsPlace : Type 0
 FindsPlace =
     (m : PlacedModule) (lines : List TextLine) (i j number place : ℕ) → place_of m lines i j ≡ Some (number, place) →

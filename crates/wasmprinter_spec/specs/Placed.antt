@@ -21,7 +21,8 @@ pub record LocalEntry : Type 0 where
   pub count : ℕ
   pub type : ValType
 
--- The content of a code entry after its size. `end` is the place of the last byte, the operator `end`.
+-- The content of a code entry after its size. `operators` are those before the last `end`, and `end` is the place of
+-- this `end`, the last byte.
 pub record Body : Type 0 where
   pub locals : List (Placed LocalEntry)
   pub operators : List (Placed Operator)

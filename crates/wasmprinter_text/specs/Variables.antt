@@ -10,7 +10,7 @@ use Rattle.wasmprinter_spec.specs.Layout.Variables.{Alone, variables_pieces}
 use Rattle.wasmprinter_text.specs.declared.types.params_and_locals.Before.{Before}
 use Rattle.wasmprinter_text.specs.declared.types.params_and_locals.Before.TheVariants as before
 
--- The pieces before a new group.
+-- The pieces before a new group: an open group is closed and a space follows, except at the start of a line.
 abbrev pub front_pieces : Before → List Piece
 front_pieces before.Line = []
 front_pieces before.ClosedGroup = OneSpace ∷ []
@@ -27,16 +27,18 @@ before_next (Some n) = before.ClosedGroup
 before_next None = before.Open
 
 module _ (names : Names) (w : List ℕ) where
-  -- The pieces of the first variable of a new group of variables without identifiers.
+  -- The pieces of the first variable of a new group of variables without identifiers. Here and below, w is the keyword
+  -- of a new group, and b the state of the text before the variable.
   abbrev pub first_pieces : Before → ValType → List Piece
   first_pieces b t = front_pieces b ++ (Open w ∷ type_list names (t ∷ []))
 
-  -- The pieces of a variable without an identifier.
+  -- The pieces of a variable without an identifier: its type in the group that is open, or in a new one.
   abbrev pub unnamed_pieces : Before → ValType → List Piece
   unnamed_pieces before.Open t = type_list names (t ∷ [])
   unnamed_pieces b t = first_pieces b t
 
-  -- The pieces of a variable, with its identifier if it has one.
+  -- The pieces of a variable, with the keyword w of a new group and the state b before it: a group of its own if the
+  -- variable has an identifier, otherwise its type in a group that stays open.
   abbrev pub variable_pieces : Before → Option Named → ValType → List Piece
   variable_pieces b (Some n) t = front_pieces b ++ variables_pieces names w (Alone n t)
   variable_pieces b None t = unnamed_pieces b t

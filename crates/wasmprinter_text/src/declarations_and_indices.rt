@@ -59,8 +59,9 @@ fn write_name<O: Output>(out: &mut O, name: Name<'_>)
     write_given_name(out, name);
 }
 
-/// Writes an identifier without a style of its own. If a name was given that differs from it, a space and the
-/// annotation `(@name "..")` with that name follow.
+/// Writes an identifier without a style of its own. If a name was given that differs from the characters after the
+/// dollar sign, a space and the annotation `(@name "..")` with that name follow. The annotation ends the style of the
+/// text before it.
 #[tactic(auto, unfolding(wasmprinter_spec::specs::Layout::Identifiers::id_and_name_pieces))]
 pub fn write_id_and_name<O: Output>(out: &mut O, identifier: Identifier<'_>)
     ensures { O.wrote out.old out.new (id_and_name_pieces (identifier_view identifier.entry)) }
@@ -137,9 +138,10 @@ pub fn write_index<O: Output>(out: &mut O, identifier: Option<Identifier<'_>>, n
 }
 
 /// Writes the declaration of an item of an index space in the style of names: its identifier with its annotation as
-/// [`write_id_and_name`] does and a space, if it has an identifier, then a comment `(;n;)` with its index. `outer` is
-/// the function of a local or label or the type of a field; it is ignored for items of other spaces. The identifier is
-/// that of [`Identifiers::item`]; it is not checked that the module has such an item.
+/// [`write_id_and_name`] does and a space, if it has an identifier, then a comment `(;n;)` with its index, which has no
+/// style after an annotation. `outer` is the function of a local or label or the type of a field; it is ignored for
+/// items of other spaces. The identifier is that of [`Identifiers::item`]; it is not checked that the module has such
+/// an item. For labels see [`write_index_of`].
 pub fn write_declaration_of<O: Output>(
     out: &mut O,
     identifiers: &Identifiers<'_, '_>,
@@ -156,8 +158,8 @@ pub fn write_declaration_of<O: Output>(
 /// Writes an index into an index space in the style of names: the identifier of the item ([`Identifiers::item`]) or, if
 /// it has none, the number in decimal. `outer` is the function of a local or label or the type of a field; it is
 /// ignored for other spaces. The index may refer to nothing: it is not checked that the module has such an item. The
-/// number of a label counts the blocks of the function as they open; the labels in operators are written by other
-/// functions.
+/// number of a label counts the blocks of the function as they open, also in a synthesized identifier. The labels in
+/// operators are written by other functions; synthesized, they have the number of blocks around theirs.
 pub fn write_index_of<O: Output>(
     out: &mut O,
     identifiers: &Identifiers<'_, '_>,

@@ -50,7 +50,7 @@ impl Format {
         }
     }
 
-    /// Returns the greatest exponent, which is that of infinity and of NaN.
+    /// Returns the greatest exponent, as the bits encode it: that of infinity and of NaN.
     pub fn greatest_exponent(self) -> u64
         ensures { result ≡ greatest_exponent (width_of self) }
     {
@@ -90,8 +90,8 @@ impl Format {
         fraction * power(4 * self.digit_count() - self.fraction_bits())
     }
 
-    /// Returns the number of bits by which a subnormal fraction is shifted to a leading 1. It is at most the number of
-    /// fraction bits of a 64-bit float (`few`).
+    /// Returns the number of bits by which a subnormal fraction is shifted left, until its highest 1 is directly above
+    /// the bits of the fraction. It is at most the number of fraction bits of a 64-bit float (`few`).
     pub fn shift(self, fraction: u64) -> u32
         requires some { 0 < fraction }
         requires below { fraction < 2 ^ (width_of self).fraction }
@@ -101,8 +101,8 @@ impl Format {
         self.fraction_bits() - fraction.ilog2()
     }
 
-    /// Returns the fraction after the leading 1 of a shifted subnormal number. It fits in the bits of the fraction
-    /// (`below`).
+    /// Returns a subnormal fraction after the shift by [`shift`](Self::shift), without its leading 1. It fits in the
+    /// bits of the fraction (`below`).
     pub fn shifted_fraction(self, fraction: u64) -> u64
         requires some { 0 < fraction }
         requires below { fraction < 2 ^ (width_of self).fraction }

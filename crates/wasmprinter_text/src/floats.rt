@@ -163,8 +163,9 @@ fn write_float<O: Output>(out: &mut O, format: Format, bits: u64)
     write_unsigned(out, format, true, rest / one, rest % one);
 }
 
-/// Writes a 32-bit float, given its bits, in the text format. A finite number is written in hexadecimal, so that
-/// the text has exactly its value. A NaN is written with its payload unless that is the canonical one. A comment
+/// Writes a 32-bit float, given its bits, in the text format: exactly the text of
+/// [`write_f32`](crate::standalone_values::write_f32). A finite number is written in hexadecimal, so that the text has
+/// exactly its value. A NaN is written with its payload unless that is the canonical one. A comment in its own style
 /// follows infinity and NaN. A minus sign has no style, the rest of the number that of literals. The contract gives the
 /// calls on the printer (`calls`) and the same as a piece of the layout (`pieces`).
 pub fn write_single<O: Output>(out: &mut O, bits: u32)

@@ -25,7 +25,7 @@ fn write_content<O: Output>(out: &mut O, content: &str)
     }
 }
 
-/// Writes an identifier, given the part after its dollar sign. It is a quoted string if it is empty or has other
+/// Writes an identifier without a style: the dollar sign and `content`, which is quoted if it is empty or has other
 /// than identifier characters.
 #[tactic(auto, unfolding(wasmprinter_spec::specs::Quoted::identifier_text))]
 pub fn write_identifier<O: Output>(out: &mut O, content: &str)
@@ -44,9 +44,9 @@ fn write_numbered<O: Output>(out: &mut O, before: &str, word: &str, number: u64)
     write_decimal(out, number);
 }
 
-/// Writes the synthesized identifier of an item: the sign `#`, the word of its kind, and its number. It is written
-/// without quotes (`calls`). So it is an identifier of the layout only if the word consists of identifier characters
-/// (`pieces`).
+/// Writes the synthesized identifier of an item without a style: `$#`, the word of its kind (`group`), and its number
+/// in decimal. It is written without quotes (`calls`). So it is an identifier of the layout only if the word consists
+/// of identifier characters (`pieces`).
 pub fn write_synthesized_identifier<O: Output>(out: &mut O, group: &str, number: u64)
     ensures calls { O.called out.old out.new (Text (dollar ∷ index_content group.now number) ∷ []) }
     ensures pieces { all_id_chars group.now ≡ true
@@ -55,7 +55,8 @@ pub fn write_synthesized_identifier<O: Output>(out: &mut O, group: &str, number:
     write_numbered(out, "$#", group, number);
 }
 
-/// Writes the annotation with the name of an item.
+/// Writes the annotation `(@name "..")` with the name of an item, whose characters are written as in a quoted string.
+/// `(` has no style of its own, `@name "` that of keywords, and the rest none.
 pub fn write_name_annotation<O: Output>(out: &mut O, name: &str)
     ensures { O.wrote out.old out.new (NameAnnotation (chars name.now) ∷ []) }
 {

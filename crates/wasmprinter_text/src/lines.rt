@@ -130,9 +130,10 @@ pub fn end_last_line<O: Output>(out: &mut O)
     out.end_line();
 }
 
-/// Starts a new line at nesting depth `nesting`. `place` is its place, if it has one: a byte offset from the start
-/// of the module. Ends the current line before. If the options ask for places, the new line begins with its place in
-/// hexadecimal in a comment, or with 11 spaces if it has none. The indent follows, once for each level up to 50.
+/// Starts a new line at nesting depth `nesting`. `place` is its place, if it has one: a byte offset from the start of
+/// the module. Ends the current line before. If the options ask for places, the new line begins with a comment `(;@h;)`
+/// in the style of comments, where `h` is its place in hexadecimal, padded with spaces to 6 characters, or with 11
+/// spaces if it has no place. The indent follows, once for each level up to 50.
 pub fn write_break<O: Output>(out: &mut O, place: Option<u64>, nesting: u64)
     ensures { O.wrote out.old out.new (Break place nesting ∷ []) }
 {
@@ -158,10 +159,10 @@ fn write_close<O: Output>(out: &mut O, place: Option<u64>, nesting: u64, on_new_
     out.write_str(")");
 }
 
-/// Closes a group and leaves it. If the group contains a line break, it closes on a line of its own, which has no
-/// place. Otherwise it closes on the current line. `nesting` is the nesting depth of the group itself. `outer_begun`
-/// says whether a line had begun in the group around it, as `enter_group` returned. A line that began in the group has
-/// then begun in the group around it.
+/// Closes a group and leaves it. If a line has begun in the group (`O.begun`), it closes on a line of its own, which
+/// has no place. Otherwise it closes on the current line. `nesting` is the nesting depth of the group itself.
+/// `outer_begun` says whether a line had begun in the group around it, as `enter_group` returned. A line that began in
+/// the group has then begun in the group around it.
 pub fn close_group<O: Output>(out: &mut O, nesting: u64, outer_begun: bool)
     ensures { ClosedGroup (groups O.wrote O.begun O.left_group) out.old out.new (close None nesting) outer_begun }
 {
@@ -170,10 +171,10 @@ pub fn close_group<O: Output>(out: &mut O, nesting: u64, outer_begun: bool)
     out.leave_group(outer_begun);
 }
 
-/// Closes a group that ends at a place. If the group contains a line break, or lines begin with their places, it
-/// closes on a line of its own, with that place. Otherwise it closes on the current line. `nesting` is the nesting
-/// depth of the group itself. `outer_begun` says whether a line had begun in the group around it, as `enter_group`
-/// returned. A line that began in the group has then begun in the group around it.
+/// Closes a group that ends at a place, and leaves it. If a line has begun in the group (`O.begun`), or lines begin
+/// with their places, it closes on a line of its own, with that place. Otherwise it closes on the current line.
+/// `nesting` is the nesting depth of the group itself. `outer_begun` says whether a line had begun in the group around
+/// it, as `enter_group` returned. A line that began in the group has then begun in the group around it.
 pub fn close_group_at<O: Output>(out: &mut O, place: u64, nesting: u64, outer_begun: bool)
     ensures { ClosedGroup (groups O.wrote O.begun O.left_group) out.old out.new (close_at O.chosen place nesting) outer_begun }
 {

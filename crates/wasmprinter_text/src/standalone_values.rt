@@ -112,8 +112,8 @@ pub fn write_value<P: Print, V: Value>(p: &mut P, value: &V) -> Result<(), Error
 }
 
 /// Writes a text as a quoted string in the style of literals: printable ASCII characters except `"` and `\` unescaped,
-/// any other character as `\u{..}` with its number in hexadecimal (section 6.3 of the standard, "Strings"). On `Ok`,
-/// all calls for the value were made and succeeded, up to how text is split into calls.
+/// any other character as `\u{..}` with its number in hexadecimal, in lower case (section 6.3 of the standard,
+/// "Strings"). On `Ok`, all calls for the value were made and succeeded, up to how text is split into calls.
 ///
 /// # Errors
 ///
@@ -128,8 +128,8 @@ pub fn write_quoted<P: Print>(p: &mut P, s: &str) -> Result<(), Error>
 }
 
 /// Writes bytes as a quoted string in the style of literals: printable ASCII except `"` and `\` unescaped, any other
-/// byte as `\hh` with its two hexadecimal digits (section 6.3 of the standard, "Strings"). On `Ok`, all calls for the
-/// value were made and succeeded, up to how text is split into calls.
+/// byte as `\hh` with its two hexadecimal digits, in lower case (section 6.3 of the standard, "Strings"). On `Ok`, all
+/// calls for the value were made and succeeded, up to how text is split into calls.
 ///
 /// # Errors
 ///

@@ -132,8 +132,8 @@ pub(crate) fn write_in_quotes<O: Output>(out: &mut O, s: &str)
 }
 
 /// Writes a text in the style of literals as a quoted string: printable ASCII characters except `"` and `\` unescaped,
-/// any other character as `\u{..}` with its number in hexadecimal (section 6.3 of the standard, "Strings"). The
-/// contract gives the calls on the printer (`calls`) and the same as a piece of the layout (`pieces`).
+/// any other character as `\u{..}` with its number in hexadecimal, in lower case (section 6.3 of the standard,
+/// "Strings"). The contract gives the calls on the printer (`calls`) and the same as a piece of the layout (`pieces`).
 pub fn write_string<O: Output>(out: &mut O, s: &str)
     ensures calls { O.called out.old out.new (calls_in_style Literal (quoted_text (chars s.now))) }
     ensures pieces { O.wrote out.old out.new (Quoted (chars s.now) ∷ []) }

@@ -55,8 +55,10 @@ pub fn write_type_index<O: Output>(out: &mut O, identifiers: &Identifiers<'_, '_
 }
 
 /// Writes a space, a group `(type ..)` with the index of a type, and the parameters and results of that type if it is a
-/// function type. If `types` has no function type with this index, only the space and the group are written. The
-/// parameters have the identifiers of those of the function `owner`; for `None` they have none.
+/// function type: groups `(param ..)`, then a group `(result ..)` if there are results, with a space before each. If
+/// `types` has no function type with this index, only the space and the group `(type ..)` are written. The parameters
+/// have the identifiers of those of the function `owner`; for `None` they have none. A parameter with an identifier has
+/// a group of its own; adjacent ones without share a group.
 pub fn write_type_use<O: Output, S: Signatures>(
     out: &mut O,
     identifiers: &Identifiers<'_, '_>,

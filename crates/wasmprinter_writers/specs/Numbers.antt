@@ -11,7 +11,7 @@ number_of Yellow = 3
 number_of Magenta = 5
 number_of Cyan = 6
 
--- The number of the color, if there is one.
+-- The number of the color in ECMA-48, if there is one.
 abbrev pub color_of : Option Color → Option ℕ
 color_of (Some color) = Some (number_of color)
 color_of None = None

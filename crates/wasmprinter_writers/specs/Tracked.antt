@@ -11,7 +11,7 @@ pub record Tracked : Type 0 where
   pub new_line : Bool
   pub lost : Bool
 
--- A text without lines.
+-- A tracker with this text. It has no lines, and none was lost.
 abbrev pub without_lines : List ℕ → Tracked
 without_lines text = record { text = text; lines = []; new_line = false; lost = false }
 

@@ -55,7 +55,7 @@ impl LineTracker {
     ghost use Rattle.wasmprinter_writers.specs.Tracked.{without_lines, with_text};
     ghost use Rattle.wasmprinter_writers.specs.Cuts.{lines_at_starts, AreLineStarts};
 
-    /// Returns a tracker that appends to `text`. It has no lines, and has lost none.
+    /// Returns a tracker that appends to `text`. It has no lines, none that waits for its entry, and has lost none.
     pub fn new(alloc: Global, text: String) -> LineTracker
         ensures { result ≡ without_lines (string_bytes text) }
     {

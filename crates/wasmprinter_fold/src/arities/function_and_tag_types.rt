@@ -10,7 +10,7 @@ use std::marker::Model;
 use wasmprinter_decoder::{ExternType, Fields, Module};
 use wasmprinter_ops::composite_types::FuncType;
 
-/// The types of the items that a module's operators refer to.
+/// The types of the items that a module's operators refer to. Contracts see them as the module.
 #[derive(Drop)]
 pub struct FunctionAndTagTypes<'m, 'a> {
     module: &'m Module<'a>,

@@ -42,7 +42,7 @@ fn label_of_type(callees: &FunctionAndTagTypes, is_loop: bool, block_type: Block
 
 /// Returns the number of values that the label of an operator's block expects: the parameters of a loop, the
 /// results of any other block. Returns `None` if the block's type is unknown, and for an operator that opens no
-/// block.
+/// block. Contracts see `callees` as the module.
 pub fn label_of_block(callees: &FunctionAndTagTypes, operator: &Operator<'_>) -> Option<u32>
     // The enclosing function does not matter.
     ensures { (own : Option ℕ) →
@@ -57,7 +57,8 @@ pub fn label_of_block(callees: &FunctionAndTagTypes, operator: &Operator<'_>) ->
     }
 }
 
-/// The number of values that the label of each open block expects.
+/// The number of values that the label of each open block expects. Contracts see it as the list of these numbers, the
+/// innermost block first.
 #[derive(Drop)]
 pub struct LabelCounts {
     /// The innermost block is the last. `None` if the block's type is unknown.
@@ -89,7 +90,8 @@ impl LabelCounts {
         self.counts.clear();
     }
 
-    /// Moves past an operator with the role. If it opens a block, the block's label expects `opened` values.
+    /// Moves past an operator with the role. If it opens a block, the block's label, which expects `opened` values,
+    /// becomes the innermost. A `delegate` or an `end` removes the innermost label, if there is one.
     ///
     /// # Errors
     ///

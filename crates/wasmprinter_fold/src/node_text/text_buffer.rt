@@ -142,12 +142,13 @@ impl Texts {
 
     /// Writes the text of an operator's node, its word and immediates, and returns its head. `labels` are those that
     /// are open before the operator, and must be fewer than 2^64 - 1. The head's text is in the buffer (`inside`), and
-    /// with its place and hint it is that of the operator (`shows`). The text is appended: older texts stay, also after
-    /// an error (`grows`).
+    /// with its place and hint it is that of the operator (`shows`), by the default options: all options give the same
+    /// text. The text is appended: older texts stay, also after an error (`grows`).
     ///
     /// # Errors
     ///
-    /// Returns an error if an allocation fails. A prefix of the text then follows the other texts.
+    /// Returns an error if an allocation fails. A prefix of the text then follows the other texts. (The contract says
+    /// only that UTF-8 follows them.)
     pub fn write_operator<S: Signatures>(
         &mut self,
         setting: &Setting<'_, S>,
@@ -167,11 +168,13 @@ impl Texts {
     }
 
     /// Writes the text of the node of a case of an `if`, which is its keyword, and returns its head. The head's text is
-    /// in the buffer (`inside`) and is the keyword (`shows`). Older texts stay, also after an error (`grows`).
+    /// in the buffer (`inside`) and is the keyword, without a hint (`shows`). Older texts stay, also after an error
+    /// (`grows`).
     ///
     /// # Errors
     ///
-    /// Returns an error if an allocation fails. The texts are then as they were.
+    /// Returns an error if an allocation fails. The texts are then as they were. (The contract says only that older
+    /// texts stay.)
     pub fn write_keyword(&mut self, keyword: &str, place: u64) -> Result<NodeText, AllocError>
         ensures color { self.new.color ≡ self.old.color }
         ensures grows { GrowsText self.old.bytes self.new.bytes }

@@ -133,6 +133,10 @@ fn write_front<O: Output>(out: &mut O, form: Form, nesting: u64, text: &str, tas
 /// Writes nodes in order at nesting depth `nesting`, each as a group around those that it holds, with their texts from
 /// `text`.
 ///
+/// The first node is the first of its line (the bare `true`). In one line nothing comes before it, or before its hint
+/// if it has one, and a space before all other nodes and hints. Over lines each node and each hint has a line break
+/// before it.
+///
 /// Each node must follow those that it holds (`whole`), and its text must be a part of `text`, between whole characters
 /// (`texts`). The options of `out` must ask for folding (`folds`). If an allocation fails, records in `out` that memory
 /// ran out.

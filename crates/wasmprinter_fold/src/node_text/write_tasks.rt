@@ -77,12 +77,13 @@ fn put_held<'a>(tasks: &mut Vec<Task<'a>>, held: &'a [Node], depth: u64) -> Resu
 
 /// Pushes the tasks for the rest of a task whose front is written. The stack then stands for the rest of the task,
 /// followed by the tasks below it (`pieces`), and takes fewer steps than with the whole task (`steps`). A task is sound
-/// if its texts are in the buffer and its nodes are well formed.
+/// if its texts are in the buffer and its nodes are well formed. The given task must be sound, with the sum of depth
+/// and number of its nodes below 2^64. If all tasks on the stack are sound, they are so afterwards (`sound`).
 ///
 /// # Errors
 ///
 /// Returns an error if an allocation fails; some of the tasks may then have been pushed. Memory is allocated only
-/// if the stack has no room for all of them.
+/// if the stack has no room for all of them; if it has room, there is no error (`room`).
 pub fn put_rest<'a>(tasks: &mut Vec<Task<'a>>, task: &Task<'a>) -> Result<(), AllocError>
     requires sound { (buffer : List ℕ) × (bound : ℕ) × IsSound buffer bound task.now × (bound < 2 ^ 64) }
     ensures pieces { OnOk result (StacksRest task.now tasks.old.items tasks.new.items) }

@@ -131,8 +131,9 @@ impl Builder {
         &self.nodes
     }
 
-    /// Adds a plain operator. Its operands are the last nodes whose results sum up to exactly `operands`, if there are
-    /// such nodes. On `Ok`, the builder represents the state after that step (`step`).
+    /// Adds a plain operator. Its operands are the shortest run of last nodes of the open part whose results sum up to
+    /// exactly `operands`, if there is one. Otherwise it has none; if they would begin inside the results of one node,
+    /// it counts for 2^32 - 1 results. On `Ok`, the builder represents the state after that step (`step`).
     ///
     /// # Errors
     ///
@@ -232,8 +233,8 @@ impl Builder {
         Ok(())
     }
 
-    /// Closes the innermost open block and adds its node. If no block is open, nothing changes. On `Ok`, the builder
-    /// represents the state after that step (`step`).
+    /// Closes the innermost open block and adds its node, for an `if` after the node of its open case. If no block is
+    /// open, nothing changes. On `Ok`, the builder represents the state after that step (`step`).
     ///
     /// # Errors
     ///

@@ -94,7 +94,7 @@ fn count_within(row: &[Candidate], limit: u128) -> usize
 }
 
 /// Searches a row for the operands of an operator that takes `operands` values. If the row is that of the nodes `f`,
-/// the result is that of the search which the definition makes in `f` (`operand_search`).
+/// from index `first` on, the result is that of the search which the definition makes in `f` (`operand_search`).
 pub fn find_operands(row: &[Candidate], operands: u32) -> Taken
     requires { (first : ℕ) × (f : NodesOf NodeText) × (row.now ≡ candidates first f) }
     ensures { (first : ℕ) (f : NodesOf NodeText) → row.now ≡ candidates first f → result ≡ outcome (operand_search operands f) }
@@ -115,8 +115,8 @@ pub fn find_operands(row: &[Candidate], operands: u32) -> Taken
     }
 }
 
-/// Returns the position after the last candidate of a row: all its nodes `f` are before it. `end` is the index of the
-/// node after the row.
+/// Returns the position after the last candidate of a row: all its nodes `f` are before it. `first` is the index of the
+/// row's first node, `end` that of the node after the row.
 pub fn end_of(row: &[Candidate], end: usize) -> Cut
     ensures { (first : ℕ) (f : NodesOf NodeText) → IsEndOf row.now end first f → IsCut first f result }
 {
@@ -149,8 +149,8 @@ pub fn operands_cut(row: &[Candidate], end: usize, operands: u32, results: u32) 
     }
 }
 
-/// Returns where the predicate of an `if` begins: the last node of a row, if there is one. `end` is the number of all
-/// nodes.
+/// Returns where the predicate of an `if` begins: the last node of a row `f`, if there is one, after the others
+/// (`front f`). Otherwise returns the end of the row. `end` is the index after the last node.
 pub fn predicate_of(row: &[Candidate], end: usize) -> Cut
     requires { (first : ℕ) × (f : NodesOf NodeText) × IsEndOf row.now end first f }
     ensures { (first : ℕ) (f : NodesOf NodeText) → IsEndOf row.now end first f → IsCut first (front f) result }
@@ -161,7 +161,8 @@ pub fn predicate_of(row: &[Candidate], end: usize) -> Cut
     }
 }
 
-/// Adds a candidate with this number of results. Its node, with the nodes that it holds, starts at the cut.
+/// Adds a candidate with this number of results. Its node, with the nodes that it holds, starts at the cut, after the
+/// nodes `f` of its part.
 ///
 /// Its sum is that of the results of at most `cut.start + 1` nodes, so it is less than 2^97.
 ///

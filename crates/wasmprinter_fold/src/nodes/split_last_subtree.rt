@@ -16,8 +16,8 @@ pub struct Last<'a> {
     pub parts: &'a [Node],
 }
 
-/// Returns the last node of a row, with the nodes before it and the nodes that it holds, or `None` if the row is empty.
-/// In a row each node follows those that it holds.
+/// Returns the last node of a row, with the nodes before it and the nodes that it holds, which are rows too, or `None`
+/// if the row is empty. In a row each node follows those that it holds.
 pub fn split_last_node(row: &[Node]) -> Option<Last<'_>>
     requires { IsPostorder row.now }
     ensures { MatchOption result (row.now ≡ []) (λ l. IsLast row.now l.before.now l.node l.parts.now) }

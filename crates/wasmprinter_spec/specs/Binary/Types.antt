@@ -21,7 +21,7 @@ storage_type_after b = choose (is_some (packed_type_of b)) (value_if_any (packed
 abbrev pub storage_type : Grammar StorageType
 storage_type = after_first_byte storage_type_after
 
--- Whether a field or a global is mutable.
+-- Whether a field or a global is mutable: the byte 01 if it is, 00 if not.
 abbrev pub mutability : Grammar Bool
 mutability = try_map (λ b. lookup ((0x00, false) ∷ (0x01, true) ∷ []) b) byte
 

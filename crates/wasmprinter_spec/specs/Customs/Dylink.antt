@@ -6,7 +6,8 @@ use Rattle.wasmprinter_spec.specs.Sized.{take_bytes, alone, exactly}
 use Rattle.wasmprinter_spec.specs.Name.{u32, vec, name}
 use Rattle.wasmprinter_spec.specs.Lenient.{Lenient, one, repeat, unless_ended}
 
--- The memory and the table space that a module needs: sizes, and the exponents of alignments, which are powers of two.
+-- The memory and the table space that a module needs: sizes in bytes and in elements, and the exponents of alignments,
+-- which are powers of two.
 pub record MemInfo : Type 0 where
   pub memory_size : ℕ
   pub memory_alignment : ℕ

@@ -7,12 +7,14 @@ use Rattle.wasmprinter_spec.specs.FirstByte.{only}
 use Rattle.wasmprinter_spec.specs.Name.{u32, vec}
 use Rattle.wasmprinter_spec.specs.Placed.{Custom, CustomEntry}
 
--- The offset of the operator from the first byte of the body, in bytes, and whether it is likely to branch.
+-- The offset of the operator in bytes from the first byte of the body, which is the one after the body's size, and
+-- whether the operator is likely to branch.
 pub record Hint : Type 0 where
   pub offset : ℕ
   pub taken : Bool
 
--- The hints of a function.
+-- The hints of a function, each with the place of its first byte. `function` is the function's index: imported functions
+-- are counted.
 pub record FunctionHints : Type 0 where
   pub function : ℕ
   pub hints : List (Placed Hint)
@@ -21,7 +23,7 @@ pub record FunctionHints : Type 0 where
 abbrev pub flag : ℕ → Option Bool
 flag b = if b == 0 then Some false else (if b == 1 then Some true else None)
 
--- An offset, the byte 01, and a flag.
+-- An offset, the byte 01 (the size of the flag), and a flag.
 abbrev pub hint : Grammar Hint
 hint =
     map_value (λ (offset, (_, taken)). record { offset = offset; taken = taken }) (seq u32 (λ _. seq (only 1) (λ _. try_map flag byte)))
@@ -54,7 +56,8 @@ abbrev pub or_none : {A : Type 0} → Option (List A) → List A
 or_none None = []
 or_none (Some xs) = xs
 
--- The hints that the data gives, empty if the data has an error.
+-- The hints that the data gives, empty if the data has an error. The data is the section's bytes after its name, with
+-- the place of the first.
 abbrev pub hints_given : Placed (List ℕ) → List FunctionHints
 hints_given d = or_none (hint_section.parse (input d.place d.value))
 
@@ -68,18 +71,19 @@ abbrev pub hints_by : Option Custom → List FunctionHints
 hints_by None = []
 hints_by (Some c) = hints_given c.bytes
 
--- The hints of a module: those of its last hint section.
+-- The hints of a module: those of its last hint section, none if there is no such section (`None`) or if its data has an
+-- error. A section with more functions or hints than the greatest numbers has an error.
 abbrev pub hints_of : List CustomEntry → List FunctionHints
 hints_of cs = hints_by (last_named (codes "metadata.code.branch_hint") None cs)
 
 -- ---- Functions and operators take hints in order: one that is not taken blocks the hints after it
 
--- The hints of the function with index i, if its entry is the next.
+-- The hints of the function with index i, if its entry is the next; otherwise none.
 abbrev pub hints_of_next : ℕ → List FunctionHints → List (Placed Hint)
 hints_of_next i [] = []
 hints_of_next i (e ∷ es) = if e.function == i then e.hints else []
 
--- The entries that are left after the function with index i.
+-- The entries that are left after the function with index i: all, if the next entry is that of another function.
 abbrev pub entries_after : ℕ → List FunctionHints → List FunctionHints
 entries_after i [] = []
 entries_after i (e ∷ es) = if e.function == i then es else e ∷ es
@@ -89,7 +93,7 @@ abbrev pub next_hint : ℕ → List (Placed Hint) → Option (Placed Hint)
 next_hint offset [] = None
 next_hint offset (h ∷ hs) = if h.value.offset == offset then Some h else None
 
--- The hints that are left after the operator at this offset.
+-- The hints that are left after the operator at this offset: all, if the next hint has another offset.
 abbrev pub hints_after : ℕ → List (Placed Hint) → List (Placed Hint)
 hints_after offset [] = []
 hints_after offset (h ∷ hs) = if h.value.offset == offset then hs else h ∷ hs

@@ -128,7 +128,8 @@ abbrev pub counts_if_listed : Signatures → List (Option ℕ) → Option Arity 
 counts_if_listed s ls None i = operands_and_results 0 0
 counts_if_listed s ls (Some a) i = counts s ls a i
 
--- The counts of an operator, where these labels are open.
+-- The counts of an operator. The list has, for each label that is open before it, the innermost first, the number of
+-- values of a branch to this label, or `None` if that is unknown.
 abbrev pub counts_of : Signatures → List (Option ℕ) → Operator → OperandCounts
 counts_of s ls o = counts_if_listed s ls (s.arities o.opcode) o.immediates
 

@@ -114,7 +114,7 @@ IsAnswer {H} wanted sum f Overshot =
 -- No run reaches the number.
 IsAnswer {H} wanted sum f TooFew = (before run : NodesOf H) → f ≡ row_of_both before run → saturating_sum sum (results_of run) < wanted
 
--- The search ends as the rule says.
+-- The search ends as the rule says, for each number above 0. (The bare 0: no results were found before the search.)
 abbrev pub OperandRule : Type 0
 OperandRule = (wanted : ℕ) (f : Nodes) → 0 < wanted → IsAnswer wanted 0 f (operand_search wanted f)
 

@@ -170,7 +170,8 @@ treatment_part skeleton claim c (Refused id) = Stops (claim ∷ []) id
 treatment_part skeleton claim c Raw = Shown (claim ∷ raw_pieces skeleton c)
 treatment_part skeleton claim c Malformed = Shown (claim ∷ malformed_pieces skeleton c)
 
--- A custom section, with the answer to its claim. A claimed section is neither printed nor checked.
+-- A custom section, with the answer to its claim. A claimed section is neither printed nor checked. The first argument
+-- says whether the text is a skeleton, here and below.
 abbrev pub custom_part : Bool → Bool → CustomEntry → Part
 custom_part skeleton answer c =
     let s : Custom = c.section.value in
@@ -183,8 +184,8 @@ same_after None None = true
 same_after (Some j) (Some k) = same_kind j k
 same_after _ _ = false
 
--- The custom sections after one kind of section (`after`). Answers are by the number of a section among all
--- custom sections; the first of these sections has the number n.
+-- The custom sections after one kind of section (`after`), or before all others for `None`. Answers are by the number
+-- of a section among all custom sections; the first of these sections has the number n.
 abbrev pub parts_at : Bool → Answers → Option Kind → ℕ → List CustomEntry → List Part
 parts_at skeleton answers after n [] = []
 parts_at skeleton answers after n (c ∷ cs) =

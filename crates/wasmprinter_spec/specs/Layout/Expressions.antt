@@ -22,7 +22,8 @@ unfoldable pub constant_by : Option Folding → Setting → List (Placed Operato
 constant_by None s os = expression_pieces s os
 constant_by (Some f) s os = folded_list f (Some 0) s [] os
 
--- An expression of a field, flat or folded, at this nesting depth.
+-- An expression of a field: folded if the scope has a folding, otherwise flat. The number is the nesting depth of the
+-- expression, which matters if a line begins in it.
 unfoldable pub constant_pieces : Scope → ℕ → List (Placed Operator) → List Piece
 constant_pieces s nesting os = constant_by s.folding (in_line s nesting) os
 
@@ -40,7 +41,8 @@ grouped_pieces s nesting os = constant_pieces s nesting os
 abbrev pub group_parts : Scope → ℕ → List ℕ → List (Placed Operator) → List Piece
 group_parts s nesting w os = word_unless_one w os ++ grouped_pieces s nesting os
 
--- An expression in a group with the word w at this nesting depth.
+-- An expression in a group at this nesting depth: after the word w or, if it is a single operator, alone and flat. The
+-- group closes on a line of its own if a line begins in it.
 unfoldable pub constant_group : Scope → ℕ → List ℕ → List (Placed Operator) → List Piece
 constant_group s nesting w os =
     let ps : List Piece = group_parts s (nesting + 1) w os in OpenUnnamed ∷ (ps ++ close None nesting (has_break ps))

@@ -123,14 +123,15 @@ abbrev pub if_folded : Option (List Piece) → List Piece
 if_folded None = []
 if_folded (Some ps) = ps
 
--- A list of operators in a module, in a function with `own` results. (The words and immediates of an operator are
--- in one line, which is the same for all options.)
+-- A list of operators with the hints `hs`, folded as `f` says, in a function with `own` results; no pieces if it has no
+-- tree. (The words and immediates of an operator are in one line, which is the same for all options.)
 abbrev pub folded_list : Folding → Option ℕ → Setting → List (Placed Hint) → List (Placed Operator) → List Piece
 folded_list f own s hs os = if_folded (folded_pieces defaults f.color s (f.signatures own) hs os)
 
 -- ---- Laws
 
--- A list is folded if it is well nested and has none of `try`, `catch`, `catch_all` and `delegate`.
+-- A list is folded, with colors in its text or without, if it is well nested and has none of `try`, `catch`,
+-- `catch_all` and `delegate`.
 abbrev pub NestedListsAreFolded : Setting → Signatures → Type 0
 NestedListsAreFolded s signatures =
     (o : Options) (color : Bool) (hs : List (Placed Hint)) (os : List (Placed Operator))

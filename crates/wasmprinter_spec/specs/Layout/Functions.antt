@@ -31,8 +31,8 @@ local_line names place (g ∷ gs) = Break place 2 ∷ (variables_pieces names (c
 unfoldable pub local_pieces : Names → ℕ → ℕ → List (Placed LocalEntry) → List Piece
 local_pieces names f count es = local_line names (locals_place es) (variable_groups (names.locals f) count (locals_of es))
 
--- The header of a function or a tag with index i: its declaration, and its type, whose parameters have the
--- identifiers of function f, or none.
+-- The header of a function or a tag with index i in its space: its declaration, and its type by index and, if it is a
+-- function type, with parameters and results. The parameters have the identifiers of function f, or none for `None`.
 unfoldable pub header_pieces : Scope → Space → Option ℕ → ℕ → ℕ → List Piece
 header_pieces s space f i type_index = item_declaration s space i ++ (OneSpace ∷ type_use s f type_index)
 
@@ -45,8 +45,8 @@ over_lines s place =
 abbrev pub result_count : Scope → ℕ → Option ℕ
 result_count s type_index = option_map (λ t. length t.results) (signature_at s.types type_index)
 
--- The operators of a body: flat, each operator on a line; or folded, each node on a line, in a function with `own`
--- results.
+-- The operators of an expression: flat, or folded if there is a folding, in a function with `own` results. The form of
+-- the setting says whether each operator or node is on a line of its own.
 unfoldable pub body_by : Option Folding → Option ℕ → Setting → List (Placed Hint) → List (Placed Operator) → List Piece
 body_by None own s hs os = list_pieces s hs os
 body_by (Some f) own s hs os = folded_list f own s hs os
@@ -61,8 +61,8 @@ inner_pieces s hs f =
     local_pieces s.names s.function (parameter_count (signature_at s.types f.type_index)) f.body.value.locals
     ++ body_pieces s f.type_index hs f.body
 
--- A function, without its locals and operators if `skeleton` is on. The two Booleans are the options
--- `skeleton` and `offsets`.
+-- A function, without its locals and operators if `skeleton` is on. The two Booleans are the options `skeleton` and
+-- `offsets`. With a body, the group closes at the place of the last `end`, as `group_at` says.
 unfoldable pub function_group : Bool → Bool → Scope → List (Placed Hint) → PlacedFunction → List Piece
 function_group true offsets s hs f =
     line_group_space (codes "func") (header_pieces s Func (Some s.function) s.function f.type_index ++ (OneSpace ∷ (Word (codes "...") ∷ [])))
@@ -70,7 +70,8 @@ function_group false offsets s hs f =
     group_space_at offsets f.body.value.end 1 (codes "func")
     (header_pieces s Func (Some s.function) s.function f.type_index ++ inner_pieces s hs f)
 
--- Function i, with these hints.
+-- Function i, imports counted, with these hints, on a line of its own. The place of the line is that of the body's
+-- first byte.
 unfoldable pub function_pieces : Options → Scope → ℕ → List (Placed Hint) → PlacedFunction → List Piece
 function_pieces o s i hs f = Break (Some f.body.place) 1 ∷ function_group o.skeleton o.offsets (scope_of_function s i) hs f
 

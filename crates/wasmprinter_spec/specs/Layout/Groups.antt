@@ -44,7 +44,7 @@ line_group w ps = Open w ∷ (ps ++ (CloseParen ∷ []))
 unfoldable pub line_group_space : List ℕ → List Piece → List Piece
 line_group_space w ps = OpenSpace w ∷ (ps ++ (CloseParen ∷ []))
 
--- The pieces of each element with its number. The first has the number i.
+-- The pieces that f gives for the number of each element and the element, in order. The first has the number i.
 unfoldable pub numbered_pieces : {A : Type 0} → (ℕ → A → List Piece) → ℕ → List A → List Piece
 numbered_pieces f i [] = []
 numbered_pieces f i (x ∷ xs) = f i x ++ numbered_pieces f (i + 1) xs

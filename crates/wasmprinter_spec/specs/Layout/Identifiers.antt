@@ -9,16 +9,16 @@ abbrev pub given_pieces : Option (List ℕ) → List ℕ → List Piece
 given_pieces None content = []
 given_pieces (Some s) content = cond (bytes_eq s content) [] (OneSpace ∷ (NameAnnotation (chars s) ∷ []))
 
--- An identifier, and the annotation with the given name.
+-- An identifier and then, if a name was given that is not its content, a space and the annotation with this name.
 unfoldable pub id_and_name_pieces : Named → List Piece
 id_and_name_pieces n = Identifier (chars n.content) ∷ given_pieces n.given n.content
 
--- A space, the identifier and the annotation, if there is an identifier.
+-- A space, the identifier and the annotation, if it has one; nothing if there is no identifier.
 unfoldable pub leading_id_and_name_pieces : Option Named → List Piece
 leading_id_and_name_pieces None = []
 leading_id_and_name_pieces (Some n) = OneSpace ∷ id_and_name_pieces n
 
--- The identifier, the annotation and a space, if there is an identifier.
+-- The identifier, the annotation, if it has one, and a space; nothing if there is no identifier.
 unfoldable pub id_and_name_space_pieces : Option Named → List Piece
 id_and_name_space_pieces None = []
 id_and_name_space_pieces (Some n) = id_and_name_pieces n ++ (OneSpace ∷ [])
@@ -28,11 +28,12 @@ unfoldable pub identifier_space_pieces : Option Named → List Piece
 identifier_space_pieces None = []
 identifier_space_pieces (Some n) = Identifier (chars n.content) ∷ (OneSpace ∷ [])
 
--- The declaration of an item, with its index.
+-- The declaration of the item with index i, in the style of names, which an annotation ends: the identifier, if it has
+-- one, the annotation with the given name, if this is not the identifier, and the comment `(;i;)`.
 unfoldable pub declaration_pieces : Option Named → ℕ → List Piece
 declaration_pieces n i = BeginName ∷ (id_and_name_space_pieces n ++ (IndexComment i ∷ (EndStyle ∷ [])))
 
--- An index: the identifier of the item, or else the number.
+-- An index in the style of names: the identifier of the item, without an annotation, or else the number i.
 unfoldable pub index_pieces : Option Named → ℕ → List Piece
 index_pieces None i = Number i ∷ []
 index_pieces (Some n) i = BeginName ∷ (Identifier (chars n.content) ∷ (EndStyle ∷ []))

@@ -65,7 +65,8 @@ import_parts s n i = Quoted (chars i.source) ∷ (OneSpace ∷ (Quoted (chars i.
 unfoldable pub import_pieces : Scope → ℕ → Placed Import → List Piece
 import_pieces s n i = Break (Some i.place) 1 ∷ line_group_space (codes "import") (import_parts s n i.value)
 
--- The fields of imports. The second argument has the numbers of the imports before these.
+-- The fields of imports, each on a line of its own: the names of the module and of the item, and the item's inner group.
+-- The second argument has the numbers of the imports before these, of each kind.
 unfoldable pub imports_pieces : Scope → Numbers → List (Placed Import) → List Piece
 imports_pieces s n [] = []
 imports_pieces s n (i ∷ is) = import_pieces s (number_of i.value.type n) i ++ imports_pieces s (numbers_after i.value.type n) is

@@ -248,7 +248,8 @@ operators_pieces s hs first n xs (o ∷ os) =
     ++ (operator_pieces s first own xs o
     ++ operators_pieces s (hints_after offset hs) false (count_after role n) (labels_after role own xs) os)
 
--- A whole list of operators with its hints: before the first operator no block was opened.
+-- A whole list of operators with its hints: the first operator is the first of the list (`true`), and before it no
+-- block was opened (0) and none is open (`[]`).
 abbrev pub list_pieces : Setting → List (Placed Hint) → List (Placed Operator) → List Piece
 list_pieces s hs os = operators_pieces s hs true 0 [] os
 

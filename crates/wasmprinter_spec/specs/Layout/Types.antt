@@ -24,17 +24,18 @@ module _ (names : Names) where
   list_group w [] = []
   list_group w (t ∷ ts) = OneSpace ∷ line_group w (type_list names (t ∷ ts))
 
-  -- The signature of function f, or of no function.
+  -- A signature: groups `param`, then a group `result`, if there are results, with a space before each. The parameters
+  -- have the identifiers of those of function f, if there is one.
   unfoldable pub signature_pieces : Option ℕ → FuncType → List Piece
   signature_pieces f t =
       groups_pieces names (codes "param") (variable_groups (parameters_of names f) 0 t.params) ++ list_group (codes "result") t.results
 
-  -- The signature of a type, nothing if it is not a function type.
+  -- The signature of a type, nothing if it is not a function type. `f`, here and below, is that of `signature_pieces`.
   abbrev pub signature_if_any : Option ℕ → Option FuncType → List Piece
   signature_if_any f None = []
   signature_if_any f (Some t) = signature_pieces f t
 
-  -- A type use: the index of a type, and its signature if it is a function type.
+  -- A type use: the index i of a type, and its signature t if it is a function type.
   unfoldable pub type_use_pieces : Option ℕ → ℕ → Option FuncType → List Piece
   type_use_pieces f i t = line_group_space (codes "type") (type_index_pieces names i) ++ signature_if_any f t
 
@@ -59,7 +60,7 @@ module _ (names : Names) where
   unfoldable pub struct_field_pieces : Option Named → FieldType → List Piece
   struct_field_pieces n f = OneSpace ∷ (OpenPlain (codes "field") ∷ (field_pieces n f ++ (CloseParen ∷ [])))
 
-  -- The composite type of the type with index i.
+  -- The composite type of the type with index i, which gives the fields of a structure type their identifiers.
   unfoldable pub composite_pieces : ℕ → CompositeType → List Piece
   composite_pieces i (FuncComposite t) = line_group (codes "func") (signature_pieces None t)
   composite_pieces i (ArrayComposite f) = line_group (codes "array") (field_pieces None f)
@@ -87,11 +88,11 @@ module _ (names : Names) where
   sub_pieces_by i true [] c = composite_pieces i c
   sub_pieces_by i final supers c = sub_group i final supers c
 
-  -- The subtype with index i.
+  -- The subtype of the type with index i.
   unfoldable pub sub_pieces : ℕ → SubType → List Piece
   sub_pieces i t = sub_pieces_by i t.final t.supertypes t.composite
 
-  -- A type with its index.
+  -- The type with index i in a group `type`: its declaration, a space, and its subtype.
   unfoldable pub type_pieces : ℕ → SubType → List Piece
   type_pieces i t = line_group_space (codes "type") (declaration_pieces (names.items Types i) i ++ (OneSpace ∷ sub_pieces i t))
 
@@ -112,7 +113,7 @@ module _ (names : Names) where
   unfoldable pub type_group_pieces : ℕ → Placed TypeGroup → List Piece
   type_group_pieces i g = Break (Some g.place) 1 ∷ group_pieces_by g.value.explicit g.place i g.value.types
 
-  -- Groups. Type indices run across all of them.
+  -- Groups. Type indices run across all of them; the first type has the index i.
   unfoldable pub type_section_pieces : ℕ → List (Placed TypeGroup) → List Piece
   type_section_pieces i [] = []
   type_section_pieces i (g ∷ gs) = type_group_pieces i g ++ type_section_pieces (i + length g.value.types) gs

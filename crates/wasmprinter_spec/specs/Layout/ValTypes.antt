@@ -59,7 +59,7 @@ module _ (names : Names) where
   ref_pieces_by true h = null_ref_pieces h
   ref_pieces_by false h = line_group_space (codes "ref") (heap_pieces h)
 
-  -- A reference type.
+  -- A reference type: in one word, such as `funcref`, if it is nullable and abstract, otherwise as a group `ref`.
   unfoldable pub ref_pieces : RefType → List Piece
   ref_pieces r = ref_pieces_by r.nullable r.heap
 

@@ -5,7 +5,7 @@ use Rattle.wasmprinter_spec.specs.Labels.{Named}
 use Rattle.wasmprinter_spec.specs.LabelNames.{is_clean}
 use Rattle.wasmprinter_spec.specs.Names.Section.{Entry, module_subsection, function_subsection, local_subsection, label_subsection, type_subsection, table_subsection, memory_subsection, global_subsection, elem_subsection, data_subsection, field_subsection}
 
--- The word for the items that a subsection names.
+-- The word for the items that a subsection names, by the id of the subsection.
 abbrev pub group_of : ℕ → List ℕ
 group_of s =
     if s == module_subsection then codes "module"
@@ -65,7 +65,8 @@ is_in s outer e = e.subsection == s && e.outer == outer
 abbrev pub entries_in : ℕ → ℕ → List Entry → List Entry
 entries_in s outer entries = filter (is_in s outer) entries
 
--- The name of an item, by all entries of a module. The numbers are the subsection, the function or type (`outer` of
--- `Entry`) and the index.
+-- The name of an item, by all entries of a module: the last entry for the item gives it, and those before this entry in
+-- its space say which names were given before. `None` if there is no such entry. The numbers are the id of the
+-- subsection, the function or type (`outer` of `Entry`; 0 if the item is in neither) and the index.
 abbrev pub name_of : List Entry → ℕ → ℕ → ℕ → Option Named
 name_of entries s outer index = last_name s [] None (entries_in s outer entries) index

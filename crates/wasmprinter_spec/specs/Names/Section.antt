@@ -54,8 +54,9 @@ is_indirect s = s == local_subsection || s == label_subsection || s == field_sub
 
 -- ---- Entries
 
--- A name that a subsection gives for an index. `outer` is the function of a local or a label, the type of a field,
--- and otherwise 0.
+-- A name that a subsection (its id) gives for an index. `outer` is the index of the function of a local or a label
+-- (imports counted), or of the type of a field, in which `index` then counts; otherwise it is 0. The index of a label is
+-- the number of its block in the function, from 0, in the order in which blocks are opened. For the module, `index` is 0.
 pub record Entry : Type 0 where
   pub subsection : ℕ
   pub outer : ℕ
@@ -108,6 +109,6 @@ subsection = follow byte (λ s. follow u32 (λ size. within (content s) size))
 abbrev pub subsections : ℕ → Lenient Entry
 subsections n = repeat (unless_ended subsection) n
 
--- The data of a name section gives these entries.
+-- The data of a name section gives these entries, in order: those of its subsections, up to the first error.
 abbrev pub GivesNames : Input → List Entry → Type 0
 GivesNames at entries = (groups : List (List Entry)) × Groups subsection at groups × (entries ≡ concat groups)

@@ -88,7 +88,8 @@ if_all f hs = if length hs == hint_count f then Some hs else None
 
 -- ---- Texts
 
--- The hints of a text, in order, or None if it has no list of hints.
+-- The hints of a text, in order, each of the operator or group directly after it; `None` if it has no list of hints,
+-- as when a hint annotation occurs elsewhere.
 abbrev pub text_hints : List ℕ → Option (List OperatorHint)
 text_hints text = do
   f ← forest text

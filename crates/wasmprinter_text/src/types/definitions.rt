@@ -252,8 +252,10 @@ fn write_sub_type<O: Output>(
     }
 }
 
-/// Writes the definition of the type with the given index as one group in one line, without a line break before it. A
-/// final type without supertypes is written as its composite type alone, any other as a group `(sub ..)`.
+/// Writes the definition of the type with the index `number` as one group `(type ..)` in one line, without a line break
+/// before it: its declaration as [`write_declaration_of`] does, a space, and its subtype. A final type without
+/// supertypes is written as its composite type alone, any other as a group `(sub ..)`. The fields of a structure type
+/// have the identifiers of those of type `number`.
 #[tactic(auto, unfolding(wasmprinter_spec::specs::Layout::Types::type_pieces, wasmprinter_spec::specs::Layout::Groups::line_group_space))]
 pub fn write_type_field<O: Output>(
     out: &mut O,

@@ -21,9 +21,9 @@ use wasmprinter_print::Output;
 /// The state of the text before a variable.
 #[derive(Clone, Copy)]
 pub enum Before {
-    /// The start of a line.
+    /// The start of a line: no space comes before the variable.
     Line,
-    /// No group is open.
+    /// No group is open, and the text before the variable is on the same line.
     ClosedGroup,
     /// A group of variables without identifiers is open.
     Open,
@@ -139,9 +139,9 @@ fn write_variable_as<O: Output>(
 }
 
 /// Writes a variable, a parameter or a local, and returns the state before the next one: after a variable with an
-/// identifier its group is closed, after another one it is open (`next`). A variable without an identifier joins the
-/// group that is open. Before a new group, an open group is closed and a space is written, except at the start of a
-/// line (`pieces`).
+/// identifier its group is closed, after another one it is open (`next`). A variable with an identifier has a group of
+/// its own. One without joins the group that is open, or opens a new group. Before a new group, an open group is closed
+/// and a space is written, except at the start of a line (`pieces`).
 ///
 /// `owner` is the function of the variable, or `None` for a parameter without a function, which has no identifier.
 /// `number` is the index of the variable among the parameters and locals. `keyword` is the first word of a new group.
