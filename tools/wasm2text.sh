@@ -281,7 +281,21 @@ case_of 0 --skeleton --func '$find' find.wasm
 echo 'wasm2text: same.wasm: no such function' >err
 # shellcheck disable=SC2016 # the argument starts with a dollar sign
 case_of 1 --skeleton --func='$find' same.wasm find.wasm
+
+# A name that is escaped in the text, one of 70 characters, and one in a name section that is cut off, so that it does not count
+function='\000asm\001\000\000\000\001\004\001\140\000\000\003\002\001\000\012\004\001\002\000\013'
+seventy=$(printf '%070d' 0 | tr 0 n)
+printf "$function"'\000\016\004name\001\007\001\000\004a"\303\251' >escaped.wasm
+printf "$function"'\000\120\004name\001\111\001\000\106'"$seventy" >long.wasm
+printf "$function"'\000\015\004name\001\007\001\000\004a"\303' >short.wasm
+# shellcheck disable=SC2028 # the text has a backslash
+echo '  (func $"a\u{22}\u{e9}" (;0;) (type 0))' >out
+echo 'wasm2text: short.wasm: no such function' >err
+# shellcheck disable=SC2016 # the argument starts with a dollar sign
+case_of 1 --func '$a"é' escaped.wasm short.wasm
 : >err
+echo "  (func \$$seventy (;0;) (type 0))" >out
+case_of 0 --func "\$$seventy" long.wasm
 
 # Output files. The first line of `out` starts what the file holds.
 { echo '-- new.wat:' && cat same.wat; } >out
@@ -294,6 +308,19 @@ file_case 0 new.wat --output new.wat same.wasm
 file_case 0 new.wat -o other.wat same.wasm -o new.wat
 echo '-- no other.wat' >out
 file_case 0 other.wat -o other.wat same.wasm -o new.wat
+
+cat >out <<'END'
+-- new.wat:
+  (func (;0;) (type 0) (param i32) (result i32)
+    local.get 0
+  )
+END
+file_case 0 new.wat -o new.wat --func 0 same.wasm
+cat >out <<'END'
+-- new.wat:
+> 1 (module)
+END
+file_case 0 new.wat -o new.wat --at 5 empty.wasm
 
 { echo '-- new.wat:' && cat empty.wat same.wat; } >out
 file_case 0 new.wat -o new.wat empty.wasm same.wasm

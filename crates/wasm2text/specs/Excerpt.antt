@@ -19,8 +19,8 @@ use Rattle.wasm2text.specs.declared.target.Target.TheVariants.{Byte, CodeByte}
 
 -- ---- The byte
 
--- The byte is at this offset from the start of the module. A byte of the code section is counted from the start of the
--- section's contents.
+-- The byte is at this offset from the start of the module. An offset in the code section is counted from the start of
+-- the section's contents, and may be after their end.
 abbrev pub IsTargetAt : Target → List ℕ → ℕ → Type 0
 IsTargetAt (Byte offset) wasm at = at ≡ offset
 IsTargetAt (CodeByte offset) wasm at = (start : ℕ) × IsCodeStart wasm start × (at ≡ start + offset)
@@ -37,7 +37,7 @@ HasOffset target wasm number = (at : ℕ) × IsTargetAt target wasm at × (numbe
 abbrev pub HasNoCode : List ℕ → Type 0
 HasNoCode wasm = (start : ℕ) → IsCodeStart wasm start → ⊥
 
--- The byte is one of the code section, and the module has no code section.
+-- The byte is counted from the code section, and the module has no code section.
 abbrev pub LacksCode : Target → List ℕ → Type 0
 LacksCode target wasm = (offset : ℕ) × (target ≡ CodeByte offset) × HasNoCode wasm
 

@@ -19,7 +19,7 @@ const CONTEXT: usize = 3;
 /// # Errors
 ///
 /// - `Module`: the module can't be printed, or an allocation failed.
-/// - `NoCode`: the byte is one of the code section, and the module has no code section.
+/// - `NoCode`: the byte is counted from the code section, and the module has no code section.
 /// - `NoByte`: the module does not have the byte.
 pub fn excerpt_of(
     alloc: Global,

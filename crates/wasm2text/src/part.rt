@@ -24,7 +24,7 @@ pub enum Part<'a> {
 /// # Errors
 ///
 /// - `Module`: the module can't be printed, or an allocation failed.
-/// - `NoCode`: the byte is one of the code section, and the module has no code section.
+/// - `NoCode`: the byte is counted from the code section, and the module has no code section.
 /// - `NoByte`: the module does not have the byte.
 /// - `NoFunction`: the module does not have the function.
 pub fn text_of_part(

@@ -15,7 +15,7 @@ pub enum Target {
 
 impl Target {
     /// Returns the offset of the byte from the start of the module, or `u64::MAX` if it is greater. Returns `None` if the
-    /// byte is one of the code section, and the module has no code section.
+    /// byte is counted from the code section, and the module has no code section.
     pub fn offset_in(self, wasm: &[u8]) -> Option<u64>
         ensures { MatchOption result (LacksCode self wasm.now) (HasOffset self wasm.now) }
     {
