@@ -7,4 +7,4 @@ import wasmprinter
 with open(sys.argv[1], "rb") as file:
     wasm = file.read()
 for _ in range(int(sys.argv[2])):
-    wasmprinter._print_whole(wasm, 0, b"  ", wasmprinter._SIZE_MAX, 0)
+    wasmprinter._print_whole(wasm, 0, b"  ", wasmprinter._SIZE_MAX, b"", 0)
