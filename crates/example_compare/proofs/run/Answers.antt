@@ -1,8 +1,4 @@
-use Rattle.std.proofs.Common.{◌≡◌, ℕ, List, [], ◌∷◌, length, map, get_or, string_bytes, arith, inl, inr}
-use Rattle.wasmprinter.specs.TextOfFile.{Reading, IsTextOfFile}
-use Rattle.example_compare.specs.declared.Failure.{Failure}
-use Rattle.example_compare.specs.declared.Failure.TheVariants.{Usage, Refused, Memory}
-use Rattle.example_compare.specs.Outcome.{IsRefused, IsFailureOf}
+use Rattle.std.proofs.Common.{◌≡◌, ℕ, List, [], ◌∷◌, length, map, get_or, string_bytes, arith}
 use Rattle.example_compare.proofs.run.Goals as goal
 
 -- The words of a list of two.
@@ -15,7 +11,7 @@ named f (a ∷ b ∷ c ∷ more) x y left right n e g h k = absurd (omega (arith
 
 pub returns-in-None : goal.returns-in-None
 returns-in-None g c =
-    let two : length c.args.words.now ≡ 2 = omega arith in record { compared = record {
+    let two : length c.args.words.now ≡ 2 = omega arith in record {
       left_file = c.as_str.result.now;
       right_file = c.as_str-2.result.now;
       named = named string_bytes c.args.words.now c.left-item.result c.right-item.result _ _ two c.left-item.is c.right-item.is c.as_str.ensures.value c.as_str-2.ensures.value;
@@ -24,11 +20,11 @@ returns-in-None g c =
       left_text = rw c.as_str-3.ensures.value c.in_ok-left.ensures.printed;
       right_text = rw c.as_str-4.ensures.value c.in_ok-right.ensures.printed;
       exact = c.in-None.ensures;
-    }; failed = tt }
+    }
 
 pub returns-in-Ok : goal.returns-in-Ok
 returns-in-Ok g c =
-    let two : length c.args.words.now ≡ 2 = omega arith in record { compared = record {
+    let two : length c.args.words.now ≡ 2 = omega arith in record {
       left_file = c.as_str.result.now;
       right_file = c.as_str-2.result.now;
       named = named string_bytes c.args.words.now c.left-item.result c.right-item.result _ _ two c.left-item.is c.right-item.is c.as_str.ensures.value c.as_str-2.ensures.value;
@@ -37,17 +33,4 @@ returns-in-Ok g c =
       left_text = rw c.as_str-3.ensures.value c.in_ok-left.ensures.printed;
       right_text = rw c.as_str-4.ensures.value c.in_ok-right.ensures.printed;
       exact = c.in-Some.ensures;
-    }; failed = tt }
-
--- The failure of the file that is refused.
-refused_left : (may_read : List ℕ → Reading) (words : List (List ℕ)) (left right : List ℕ) (failure : Failure) → words ≡ left ∷ right ∷ [] →
-    IsRefused may_read left failure → IsFailureOf may_read words failure
-refused_left may_read words left right (Refused file error) e is = (left, right, e, inl is)
-refused_left may_read words left right Usage e is = absurd is
-refused_left may_read words left right Memory e is = absurd is
-
-refused_right : (may_read : List ℕ → Reading) (words : List (List ℕ)) (left right text : List ℕ) (failure : Failure) → words ≡ left ∷ right ∷ [] →
-    IsTextOfFile (may_read left) text → IsRefused may_read right failure → IsFailureOf may_read words failure
-refused_right may_read words left right text (Refused file error) e printed is = (left, right, e, inr ((text, printed), is))
-refused_right may_read words left right text Usage e printed is = absurd is
-refused_right may_read words left right text Memory e printed is = absurd is
+    }
