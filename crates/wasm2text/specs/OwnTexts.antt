@@ -38,9 +38,9 @@ help_lines =
     ∷ codes "functions are counted; or $ and the rest of its identifier, as '$find'."
     ∷ codes ""
     ∷ codes "Exit status:"
-    ∷ codes "  0  all files were printed, or the reader of the text closed the pipe"
-    ∷ codes "  1  a file was not read or not printed; the others are printed, except after"
-    ∷ codes "     a failed write; a part of the text may have been written"
+    ∷ codes "  0  no file failed; the reader of the text may have closed the pipe"
+    ∷ codes "  1  a file, the output, an allocation or the arguments failed; if only files"
+    ∷ codes "     failed, the others are printed; a part of a text may have been written"
     ∷ codes "  2  the command line is wrong; nothing was printed"
     ∷ []
 

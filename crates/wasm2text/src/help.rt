@@ -36,9 +36,9 @@ text, without colors. FUNCTION is its index, as OFFSET is written, and imported
 functions are counted; or $ and the rest of its identifier, as '$find'.
 
 Exit status:
-  0  all files were printed, or the reader of the text closed the pipe
-  1  a file was not read or not printed; the others are printed, except after
-     a failed write; a part of the text may have been written
+  0  no file failed; the reader of the text may have closed the pipe
+  1  a file, the output, an allocation or the arguments failed; if only files
+     failed, the others are printed; a part of a text may have been written
   2  the command line is wrong; nothing was printed
 ";
 
