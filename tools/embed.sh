@@ -1,5 +1,5 @@
 #!/bin/sh
-# Tests a release archive as its user has it: without the kit, and without this repository's library and program.
+# Tests a release archive as its user has it: without the kit, and without this repository's library and programs.
 #
 # tools/embed.sh ARCHIVE [FOLDER]: unpacks the archive that tools/release.sh made in the folder, which must be empty or missing, and is kept.
 # Without FOLDER a temporary folder is used, and removed at the end.

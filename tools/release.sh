@@ -1,5 +1,5 @@
 #!/bin/sh
-# Makes a release archive of the program and the library for C that `tools/install.sh build` has built, and of the bindings.
+# Makes a release archive of the programs and the library for C that `tools/install.sh build` has built, and of the bindings.
 #
 # tools/release.sh OUT [BUILT]: writes `wasmprinter-VERSION-rN-x86_64-linux-gnu.tar.gz` and its checksum, with the suffix `.sha256`, to the folder
 # OUT. BUILT is the folder of `tools/install.sh build`, by default OUT. Fails if a built file is missing, or if the commit or the work tree has

@@ -11,7 +11,7 @@ use std::fmt;
 /// An error of the command line.
 #[derive(Clone, Copy)]
 pub enum ArgumentError<'a> {
-    /// No option has the name with which this word starts.
+    /// This word starts with `-`, and is no option with its value.
     UnknownOption(&'a str),
     /// The value of the option with this name is missing.
     MissingValue(&'a str),

@@ -1,9 +1,9 @@
 //! The exit statuses.
 
-/// Everything was printed.
+/// Everything that was requested was printed, or the reader of the output closed it.
 pub const PRINTED: u8 = 0;
 
-/// A file was not read or not printed, or memory was not available.
+/// A file was not read or not printed, the output was not written, the arguments were not read, or an allocation failed.
 pub const FAILED: u8 = 1;
 
 /// The command line is wrong, and nothing was printed.
