@@ -10,8 +10,8 @@ ghost use Rattle.wasmprinter_print.specs.OutputLaws.{PieceOf, BreakOf, PartOf, S
 
 use crate::Style;
 
-/// A destination for layout code: a printer with the options of the layout. It records the first error, and makes no
-/// call after it.
+/// A destination for layout code: a printer with the options of the layout. It records the first error, and writes
+/// nothing after it.
 ///
 /// Layout code is generic over this trait. The contract of a layout function is `O.wrote out.old out.new pieces`:
 /// these pieces were written, up to the first error. The laws at the end say how such facts compose; they make

@@ -1,7 +1,8 @@
 -- Reading a text (section 6 of the standard): the module that it represents, or None. Identifiers may be used
 -- before they are declared, so the fields are sorted by kind and their identifiers collected before any field is
--- read. Of the abbreviations of section 6.6, the reader has folded operators, and groups of several parameters,
--- results, locals and fields.
+-- read. The reader has folded operators (section 6.5), and these abbreviations of section 6.6: groups of several
+-- parameters, results, locals and fields; an offset or item that is one operator; segments without their table or
+-- memory.
 use Rattle.std.specs.Prelude.{ℕ, List, [], ◌∷◌, ◌++◌, Bool, true, false, codes, bytes_eq, Option, Some, None, if◌then◌else◌, map, option_map}
 use Rattle.std.specs.List.{filter}
 use Rattle.std.specs.Str.{is_utf8}

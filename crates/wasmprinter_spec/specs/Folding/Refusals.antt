@@ -75,8 +75,8 @@ IsFirstLegacy o m place = slice_get (legacy_places o m) 0 ≡ Some place
 -- ---- Hints
 
 -- `block`, `loop`, `try_table`, `else` and `end` cannot have a hint if they are folded. This is a rule of this
--- printer. (An `end` has no node of its own; before the nodes of the others, this printer puts no hint. The
--- standard's tools put hints on `if` and on branches.)
+-- printer. (An `end` has no node of its own. The layout has a place for a hint before the node of a block, but no
+-- module with such a hint is printed. The standard's tools put hints on `if` and on branches.)
 abbrev pub is_hintless : Role → Bool
 is_hintless Opens = true
 is_hintless Else = true
