@@ -1,5 +1,5 @@
 -- A number that bytes encode in LEB128 with `bits` bits is in the range of numbers with that many bits.
-use Rattle.std.proofs.Common.{◌≡◌, ℕ, ℤ, pos, negsuc, ◌+ℤ◌, ◌*ℤ◌, ◌+◌, ◌-◌, ◌*◌, ◌^◌, ◌<◌, ◌≤◌, List, [], ◌∷◌, inl, inr, subst, arith}
+use Rattle.std.proofs.Common.{◌≡◌, ℕ, ℤ, pos, negsuc, ◌+ℤ◌, ◌*ℤ◌, ◌-◌, ◌^◌, ◌<◌, ◌≤◌, List, [], ◌∷◌, inl, inr, subst, arith}
 use Rattle.std.proofs.lemmas.Int.{ints}
 use Rattle.wasmprinter_spec.specs.Leb.{Unsigned, unsigned, Signed, signed}
 use Rattle.wasmprinter_spec.specs.Binary.{AreBytes}

@@ -1,7 +1,7 @@
 -- The calls that generic code makes for a layout: all of them, or a prefix up to a failed call or a failed
 -- allocation. The order of what is passed is: meaning, state before, state after, result, calls. `MakesCall`, `AsksPrinter`,
 -- `Succeeded`, `Failed` and `Run` take their calls between the states.
-use Rattle.std.specs.Prelude.{◌≡◌, ℕ, Bool, true, false, List, [], ◌∷◌, ◌++◌, Result, Ok, Err}
+use Rattle.std.specs.Prelude.{◌≡◌, Bool, true, false, List, [], ◌∷◌, ◌++◌, Result, Ok, Err}
 use Rattle.std.specs.declared.io.Error.{Error as IoError}
 use Rattle.wasmprinter_spec.specs.Call.{Call, atoms}
 use Rattle.wasmprinter_spec.specs.Meaning.{Meaning, Run, Succeeded, Failed}

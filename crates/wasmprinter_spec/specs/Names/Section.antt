@@ -1,6 +1,6 @@
 -- The data of a name section (appendix "Name Section" of the standard, and the extended name section proposal):
 -- subsections with names for indices. The entries before the first error count.
-use Rattle.std.specs.Prelude.{◌≡◌, ℕ, List, [], ◌∷◌, ◌++◌, Bool, ◌||◌, ◌==◌, nat_lt}
+use Rattle.std.specs.Prelude.{◌≡◌, ℕ, List, [], ◌∷◌, Bool, ◌||◌, ◌==◌, nat_lt}
 use Rattle.wasmprinter_spec.specs.Grammar.{Input, Grammar, byte, seq}
 use Rattle.wasmprinter_spec.specs.Name.{u32, name}
 use Rattle.wasmprinter_spec.specs.Types.{concat}
