@@ -3,8 +3,8 @@
 //     std::string text = wasmprinter::print(wasm);
 //
 // All functions are inline and call those of wasmprinter.h. Its head says how to link the library, and its statements on lengths, places
-// and threads hold here too. Each function that prints throws Error if the module can't be printed, and std::bad_alloc if memory is
-// missing.
+// and threads hold here too. Each function that prints throws Error if the module can't be printed, std::bad_alloc if memory is missing, and
+// std::length_error if a name in Options::omitted has 4 GiB or more.
 #ifndef WASMPRINTER_HPP
 #define WASMPRINTER_HPP
 
