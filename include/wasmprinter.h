@@ -293,10 +293,11 @@ WASMPRINTER_INLINE WasmprinterStatus wasmprinter_print_events(WasmprinterBytes w
 typedef void *(*WasmprinterResize)(void *context, void *block, size_t len);
 
 /* Prints the text of a module to memory from `resize`, and stores it in `text`. The text ends with a zero byte, which text->len does not
- * count. With the default options nearly every module is printed once. It is printed again if its text is longer than expected.
+ * count. The first block has room for 32 bytes of text for each byte of the module, and for 4096 more. Nearly every text fits into it. A longer
+ * text is printed again, to a longer block.
  *
- * `resize` is called with `context` and, if there is a limit, with a length of at most options->limit + 1. If `resize` is null, realloc is used,
- * and the caller frees text->ptr with free.
+ * `resize` is called with `context` and, if there is a limit, with a length of at most options->limit + 1. If it returns null for the first block,
+ * the text is measured, and `resize` is called again. If `resize` is null, realloc is used, and the caller frees text->ptr with free.
  *
  * text->ptr must be null, or a block of an earlier call with the same `resize` and `context`, which is used again. After an error text->ptr holds
  * the block, if there is one, as an empty string, and text->len is 0. So the caller frees text->ptr in any case. The block is not shortened to
@@ -304,8 +305,8 @@ typedef void *(*WasmprinterResize)(void *context, void *block, size_t len);
 WASMPRINTER_NONNULL_TEXT
 WASMPRINTER_INLINE WasmprinterStatus wasmprinter_print_alloc(WasmprinterBytes wasm, const WasmprinterOptions *options, WasmprinterResize resize,
                                                         void *context, WasmprinterBuffer *text, WasmprinterResult *result) {
-    /* Most texts have less than 12 bytes for each byte of the module. Pages of a block that are not written to take no memory. */
-    const size_t expected = 12, least = 4096;
+    /* Pages of a block that are not written to take no memory, so room that is not needed costs little. */
+    const size_t expected = 32, least = 4096;
     WasmprinterResult own_result = {0, 0, 0};
     size_t room = wasm.ptr != NULL && wasm.len < SIZE_MAX / (2 * expected) ? wasm.len * expected + least : least;
     int is_measured = 0;

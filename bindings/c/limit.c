@@ -1,10 +1,10 @@
-/* limit: prints a small module with a text of a million bytes, with limits. For C99 and C++. */
+/* limit: prints a small module with a text of a million bytes, with limits, and checks which texts need a second block. For C99 and C++. */
 #include "checked.h"
 #include "expect.h"
 
 #include <stdlib.h>
 
-/* The name of the function has NAME_LEN bytes, and its body has CALLS calls of itself. Each call shows the name. */
+/* The name of the function has NAME_LEN bytes, or fewer, and its body has CALLS calls of itself. Each call shows the name. */
 enum { NAME_LEN = 1000, CALLS = 1000, NAME_BYTE = 'n' };
 
 /* The lengths of sections and of bodies have five bytes. */
@@ -35,9 +35,9 @@ static uint8_t *add_calls(uint8_t *end) {
     return end;
 }
 
-/* Writes the module. */
-static WasmprinterBytes make_module(void) {
-    const size_t body = 1 + 2 * CALLS + 1, name = 1 + 1 + SIZE_LEN + NAME_LEN;
+/* Writes the module with a name of this length. */
+static WasmprinterBytes make_module(size_t name_len) {
+    const size_t body = 1 + 2 * CALLS + 1, name = 1 + 1 + SIZE_LEN + name_len;
     uint8_t *end = add(wasm, "\0asm\1\0\0\0\1\4\1\x60\0\0\3\2\1\0\x0a", 19);
     end = add_size(end, 1 + SIZE_LEN + body);
     end = add(end, "\1", 1); /* a body */
@@ -45,9 +45,9 @@ static WasmprinterBytes make_module(void) {
     end = add_calls(add(end, "\0", 1)); /* no locals */
     end = add_size(add(end, "\x0b\0", 2), 5 + 1 + SIZE_LEN + name);
     end = add_size(add(end, "\4name\1", 6), name);
-    end = add_size(add(end, "\1\0", 2), NAME_LEN); /* a name, of function 0 */
-    memset(end, NAME_BYTE, NAME_LEN);
-    return wasmprinter_bytes(wasm, (size_t)(end + NAME_LEN - wasm));
+    end = add_size(add(end, "\1\0", 2), name_len); /* a name, of function 0 */
+    memset(end, NAME_BYTE, name_len);
+    return wasmprinter_bytes(wasm, (size_t)(end + name_len - wasm));
 }
 
 /* Appends text, the name and more text to the expected text, whose length is given. Returns its new length. */
@@ -151,6 +151,28 @@ static void check_typed(WasmprinterBytes bytes, size_t length) {
     free(block.ptr);
 }
 
+/* Prints the module with a name of this length to memory. Checks the lengths of the module and of its text, and the requests of memory. */
+static void check_requests(size_t name_len, size_t wasm_len, size_t length, unsigned count, size_t greatest) {
+    const WasmprinterBytes bytes = make_module(name_len);
+    Requests requests = {0, 0, false};
+    WasmprinterBuffer block = {NULL, 0};
+    WasmprinterStatus status = wasmprinter_print_alloc(bytes, NULL, resize, &requests, &block, NULL);
+    expect(bytes.len == wasm_len, "requests", "length of the module");
+    expect(status == WASMPRINTER_OK && block.len == length, "requests", "length of the text");
+    expect(requests.count == count, "requests", "number of requests");
+    expect(requests.greatest == greatest, "requests", "greatest request of memory");
+    free(block.ptr);
+}
+
+/* The first request is for 32 bytes for each byte of the module, 4096, and the zero byte. A longer text needs a second one. */
+static void check_all_requests(void) {
+    check_requests(1, 2057, 12062, 1, 69921);
+    check_requests(30, 2086, 41091, 1, 70849);
+    check_requests(60, 2116, 71121, 1, 71809);
+    check_requests(61, 2117, 72122, 2, 72123);
+    check_requests(1000, 3056, 1012061, 2, 1012062);
+}
+
 /* Checks that the least limit does not change another error. */
 static void check_precedence(WasmprinterBytes bytes) {
     const Outcome unknown = {WASMPRINTER_UNKNOWN_OPTION, {0, 0, ALL_OPTIONS + 1}}, no_utf8 = {WASMPRINTER_INVALID_INDENT, {0, 0, 0}};
@@ -166,7 +188,8 @@ static void check_precedence(WasmprinterBytes bytes) {
 }
 
 int main(void) {
-    const WasmprinterBytes bytes = make_module();
+    check_all_requests();
+    const WasmprinterBytes bytes = make_module(NAME_LEN);
     const size_t length = make_text();
     check_typed(bytes, length);
     for (uint32_t flags = 0; flags <= ALL_OPTIONS; flags++) {

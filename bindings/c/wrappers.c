@@ -264,8 +264,8 @@ static void check_error_texts(void) {
 
 /* ---- Allocated texts */
 
-/* The length that the header expects of the text of this module, and that of a longer text. */
-enum { EACH = 12, LEAST = 4096, ROOM = WASM_LEN * EACH + LEAST, LONG = 9 * ROOM };
+/* The length that the header expects of the text of this module: 32 bytes for each of its 4096 bytes, and 4096 more. And that of a longer text. */
+enum { ROOM = 135168, LONG = 9 * ROOM };
 
 /* The allocations that fail, as bits. */
 enum { NONE = 0, FIRST = 1, SECOND = 2, BOTH = 3 };
@@ -317,6 +317,8 @@ static const Scenario SCENARIOS[] = {
     {"as long as expected", 0, PRINTED(ROOM), NOT_PRINTED, NONE, 1, {ROOM + 1, 0}, 1, {ROOM, 0}, PRINTED(ROOM)},
     {"a byte longer", 0, PRINTED(ROOM + 1), PRINTED(ROOM + 1), NONE, 2, {ROOM + 1, ROOM + 2}, 2, {ROOM, ROOM + 1}, PRINTED(ROOM + 1)},
     {"much longer", 0, PRINTED(LONG), PRINTED(LONG), NONE, 2, {ROOM + 1, LONG + 1}, 2, {ROOM, LONG}, PRINTED(LONG)},
+    {"24 bytes for each byte", 0, PRINTED(98304), NOT_PRINTED, NONE, 1, {135169, 0}, 1, {135168, 0}, PRINTED(98304)},
+    {"48 bytes for each byte", 0, PRINTED(196608), PRINTED(196608), NONE, 2, {135169, 196609}, 2, {135168, 196608}, PRINTED(196608)},
     {"measured", 0, PRINTED(LENGTH), PRINTED(LENGTH), FIRST, 2, {ROOM + 1, LENGTH + 1}, 2, {0, LENGTH}, PRINTED(LENGTH)},
     {"measured, a long one", 0, PRINTED(LONG), PRINTED(LONG), FIRST, 2, {ROOM + 1, LONG + 1}, 2, {0, LONG}, PRINTED(LONG)},
     {"not reallocated", 0, PRINTED(ROOM + 1), NOT_PRINTED, SECOND, 2, {ROOM + 1, ROOM + 2}, 1, {ROOM, 0}, OUT_OF_MEMORY},
@@ -419,13 +421,14 @@ static void check_room(const void *bytes, size_t len, size_t room) {
 
 /* Checks the expected lengths of texts, also of modules whose expected length a size_t can't hold. */
 static void check_rooms(void) {
-    const size_t too_long = SIZE_MAX / (2 * EACH);
-    check_room(NULL, WASM_LEN, LEAST);
-    check_room(wasm, 0, LEAST);
-    check_room(wasm, 1, EACH + LEAST);
-    check_room(wasm, too_long - 1, (too_long - 1) * EACH + LEAST);
-    check_room(wasm, too_long, LEAST);
-    check_room(wasm, SIZE_MAX, LEAST);
+    const size_t too_long = SIZE_MAX / 64;
+    check_room(NULL, WASM_LEN, 4096);
+    check_room(wasm, 0, 4096);
+    check_room(wasm, 1, 4128);
+    check_room(wasm, 14000000, 448004096);
+    check_room(wasm, too_long - 1, (too_long - 1) * 32 + 4096);
+    check_room(wasm, too_long, 4096);
+    check_room(wasm, SIZE_MAX, 4096);
 }
 
 int main(void) {

@@ -1,6 +1,6 @@
 // test FILE: checks every case of bindings/cases.txt with wasmprinter.hpp, and calls that no case describes. Prints each difference and the
 // counts; the status is 1 if there is a difference. Linked with --wrap=malloc, --wrap=realloc and --wrap=free, so that all allocations are
-// counted and can fail.
+// counted and can fail, and with --wrap=wasmprinter_raw_print, so that the prints are counted.
 #include "wasmprinter.hpp"
 
 #include <cstdlib>
@@ -87,6 +87,24 @@ void *operator new(std::size_t size) {
 
 void operator delete(void *block) noexcept { __wrap_free(block); }
 void operator delete(void *block, std::size_t) noexcept { __wrap_free(block); }
+
+// ---- Prints
+
+// The number of calls of wasmprinter_raw_print.
+static unsigned prints = 0;
+
+extern "C" {
+decltype(wasmprinter_raw_print) __real_wasmprinter_raw_print;
+
+WasmprinterStatus __wrap_wasmprinter_raw_print(const std::uint8_t *wasm, std::size_t wasm_len, std::uint32_t flags, const std::uint8_t *indent,
+                                               std::size_t indent_len, std::size_t limit, const std::uint8_t *omitted, std::size_t omitted_len,
+                                               std::uint8_t *out, std::size_t out_len, WasmprinterEvent *table, std::size_t table_len,
+                                               WasmprinterResult *result) {
+    prints++;
+    return __real_wasmprinter_raw_print(wasm, wasm_len, flags, indent, indent_len, limit, omitted, omitted_len, out, out_len, table, table_len,
+                                        result);
+}
+}
 
 // ---- Cases
 
@@ -471,6 +489,39 @@ static void check_long_text() {
     check(test_case);
 }
 
+// Checks the length that a call returns, and how often it prints the module.
+template <typename Call> static void expect_prints(std::size_t length, unsigned expected, Call call) {
+    prints = 0;
+    expect(call() == length, "prints", "length");
+    expect(prints == expected, "prints", "number");
+}
+
+// The first block or array has 32 bytes for each byte of the module, and 4096 more. A text that fits into it is printed once, and any other twice.
+static void check_prints() {
+    // a function of 4000 `nop` operators
+    const std::string nops = std::string(ONE_TYPE) + "\3\2\1\0\x0a\xa5\x1f\1\xa2\x1f\0"s + std::string(4000, '\1') + '\x0b';
+    for (const auto &[level, length, expected] : {std::tuple(2, 32059, 1), {8, 80077, 1}, {14, 128095, 1}, {15, 136098, 2}}) {
+        const std::string indent(level, ' ');
+        Options options;
+        options.indent = indent;
+        expect_prints(length, expected, [&] { return wasmprinter::print(nops, options).size(); });
+        expect_prints(length, expected, [&] { return wasmprinter::print_text(nops, options).size(); });
+        expect_prints(length, expected, [&] { return wasmprinter::print_events(nops, options).text().size(); });
+    }
+    for (const auto &[level, length, expected] : {std::tuple(4300, 4330, 1), {4514, 4544, 1}, {4515, 4545, 2}}) {
+        const std::string indent(level, ' ');
+        Options options;
+        options.indent = indent;
+        expect_prints(length, expected, [&] { return wasmprinter::print_text(ONE_TYPE, options).size(); });
+        expect_prints(length, expected, [&] { return wasmprinter::print_lines(ONE_TYPE, options).text().size(); });
+        expect_prints(length, expected, [&] { return wasmprinter::print_events(ONE_TYPE, options).text().size(); });
+    }
+    expect(wasmprinter::detail::expected_length(0, 0) == 4096, "prints", "expected length of the text of no bytes");
+    expect(wasmprinter::detail::expected_length(14, 0) == 4544, "prints", "expected length");
+    expect(wasmprinter::detail::expected_length(14, 4543) == 4543, "prints", "expected length with a limit");
+    expect(wasmprinter::detail::expected_length(SIZE_MAX, 0) == 4096, "prints", "expected length that a size can't hold");
+}
+
 // Prints more lines than expected: those of a function with 200 `nop` operators. The bodies have 205 bytes, the only one of them 202.
 static void check_many_lines() {
     std::string wasm = "\0asm\1\0\0\0\1\4\1\x60\0\0\3\2\1\0\x0a\xcd\1\1\xca\1\0"s;
@@ -509,6 +560,7 @@ static void check_copies() {
     Lines lines = wasmprinter::print_lines(ONE_TYPE);
     const Lines copy = lines;
     const Lines moved = std::move(lines);
+    expect(lines.empty() && lines.begin() == lines.end() && lines.text().empty(), "lines that were moved", "number");
     expect_lines(one_type(), copy);
     expect_lines(one_type(), moved);
     lines = copy;
@@ -516,6 +568,7 @@ static void check_copies() {
     Events events = wasmprinter::print_events(ONE_TYPE);
     const Events copied_events = events;
     const Events moved_events = std::move(events);
+    expect(events.empty() && events.begin() == events.end() && events.text().empty(), "events that were moved", "number");
     expect_events(one_type(), copied_events);
     expect_events(one_type(), moved_events);
     events = copied_events;
@@ -562,10 +615,26 @@ static void check_failing_allocations() {
     check_memory("failing allocations of lines", [&] { return wasmprinter::print_lines(ONE_TYPE, options).text() == text; });
     check_memory("failing allocations of events", [&] { return wasmprinter::print_events(ONE_TYPE, options).text() == text; });
     check_memory("failing allocations of colors", [&] { return wasmprinter::print_ansi(ONE_TYPE, options).size() > text.size(); });
+    const Lines lines = wasmprinter::print_lines(ONE_TYPE, options);
+    check_memory("failing allocations of a copy", [&] { return Lines(lines).text() == text; });
     options.limit = text.size();
     check_memory("failing allocations with a limit", [&] { return wasmprinter::print(ONE_TYPE, options) == text; });
     options.fold = true;
     check_memory("failing allocations, folded", [&] { return wasmprinter::print(ONE_TYPE, options) == text; });
+}
+
+// Lets the allocation for the text or for the table fail. The module is then measured, and printed to arrays of the lengths that it needs.
+static void check_measured() {
+    for (unsigned successes = 0; successes < 2; successes++) {
+        const auto throws_once = [&](auto call) { return throws("little memory", Failing::once, successes, call); };
+        prints = 0;
+        expect(!throws_once([] { return wasmprinter::print_lines(ONE_TYPE).text() == ONE_TYPE_TEXT; }), "little memory", "exception of lines");
+        expect(!throws_once([] { return wasmprinter::print_events(ONE_TYPE).text() == ONE_TYPE_TEXT; }), "little memory", "exception of events");
+        expect(prints == 4, "little memory", "number of prints");
+    }
+    prints = 0;
+    expect(!throws("little memory", Failing::once, 0, [] { return wasmprinter::print(ONE_TYPE) == ONE_TYPE_TEXT; }), "little memory", "exception");
+    expect(prints == 2, "little memory", "number of prints of a text");
 }
 
 int main(int argc, char **argv) {
@@ -578,6 +647,7 @@ int main(int argc, char **argv) {
     check_empty_input();
     check_indents();
     check_long_text();
+    check_prints();
     check_many_lines();
     check_events();
     check_custom_section();
@@ -586,6 +656,7 @@ int main(int argc, char **argv) {
     check_limits();
     check_copies();
     check_failing_allocations();
+    check_measured();
     expect(wasmprinter::version() == "0.263.0-r1", "the library", "version");
     std::cout << "wasmprinter.hpp: " << cases.size() << " cases, " << failed << " differences\n";
     return failed == 0 ? EXIT_SUCCESS : EXIT_FAILURE;

@@ -3,8 +3,8 @@
 //     std::string text = wasmprinter::print(wasm);
 //
 // All functions are inline and call those of wasmprinter.h. Its head says how to link the library, and its statements on lengths, places
-// and threads hold here too. Each function that prints throws Error if the module can't be printed, and std::bad_alloc if memory is
-// missing.
+// and threads hold here too. Each function that prints throws Error if the module can't be printed, std::bad_alloc if memory is missing, and
+// std::length_error if a name in Options::omitted has 4 GiB or more.
 #ifndef WASMPRINTER_HPP
 #define WASMPRINTER_HPP
 
@@ -14,6 +14,7 @@
 
 #include "wasmprinter.h"
 
+#include <algorithm>
 #include <cstddef>
 #include <cstdint>
 #include <cstdlib>
@@ -68,19 +69,48 @@ class Error : public std::runtime_error {
 
 namespace detail {
 
-// An allocator of vectors whose new elements are not initialized, so that only the printer writes to them.
-template <typename T> struct Uninitialized : std::allocator<T> {
-    template <typename U> struct rebind { using other = Uninitialized<U>; };
-    Uninitialized() = default;
-    template <typename U> Uninitialized(const Uninitialized<U> &) noexcept {}
-    template <typename U> void construct(U *element) noexcept { ::new (static_cast<void *>(element)) U; }
+// Frees a block from malloc or realloc.
+struct Free {
+    void operator()(void *block) const noexcept { std::free(block); }
 };
 
-template <typename T> using Array = std::vector<T, Uninitialized<T>>;
+// An array whose elements are not initialized, so that only the printer writes to them. Pages that are not written to take no memory. A vector
+// takes time for each element if the compiler does not optimize, even if its allocator initializes none.
+template <typename T> class Array {
+    static_assert(std::is_trivial_v<T>);
 
-// Frees a block from realloc.
-struct Free {
-    void operator()(char *block) const noexcept { std::free(block); }
+  public:
+    Array() = default;
+
+    // Allocates an array of this length, or an empty one if memory is missing.
+    explicit Array(std::size_t size) noexcept
+        : block_(size <= SIZE_MAX / sizeof(T) ? static_cast<T *>(std::malloc(size * sizeof(T))) : nullptr), size_(block_ ? size : 0) {}
+
+    Array(const Array &other) : Array(other.size_) {
+        if (size_ < other.size_) {
+            throw std::bad_alloc();
+        }
+        std::copy_n(other.data(), size_, data());
+    }
+    Array(Array &&other) noexcept : block_(std::move(other.block_)), size_(std::exchange(other.size_, 0)) {}
+    Array &operator=(Array other) noexcept {
+        block_ = std::move(other.block_);
+        size_ = other.size_;
+        return *this;
+    }
+
+    T *data() noexcept { return block_.get(); }
+    const T *data() const noexcept { return block_.get(); }
+    std::size_t size() const noexcept { return size_; }
+    bool empty() const noexcept { return size_ == 0; }
+    const T &operator[](std::size_t index) const noexcept { return block_[index]; }
+
+    // Leaves out the elements from this index on.
+    void shorten(std::size_t size) noexcept { size_ = size; }
+
+  private:
+    std::unique_ptr<T[], Free> block_;
+    std::size_t size_ = 0;
 };
 
 // The text of a module, and the table of its lines or of its events.
@@ -130,22 +160,28 @@ inline void check(WasmprinterStatus status, const WasmprinterResult &result) {
     }
 }
 
-// Prints a module with the table that the options choose. `count` is the expected length of the table.
+// Returns the expected length of the text of a module of this size. Nearly every text has at most 32 bytes for each byte of the module.
+inline std::size_t expected_length(std::size_t wasm_size, std::size_t limit) noexcept {
+    constexpr std::size_t expected = 32, least = 4096;
+    const std::size_t length = wasm_size < SIZE_MAX / (2 * expected) ? wasm_size * expected + least : least;
+    return limit != 0 && limit < length ? limit : length;
+}
+
+// Prints a module with the table that the options choose. `count` is the expected length of the table. If the text or the table is longer than
+// expected, or if there is not enough memory for the expected lengths, the module is printed again.
 inline Printed print_whole(std::string_view wasm, const WasmprinterOptions &chosen, std::size_t count) {
-    // Most texts have less than 12 bytes for each byte of the module. If the text or the table is longer than expected, the module is printed
-    // again. Pages of an array that are not written to take no memory.
-    std::size_t length = wasm.size() * 12 + 4096;
-    if (chosen.limit != 0 && chosen.limit < length) {
-        length = chosen.limit;
-    }
-    for (;;) {
+    std::size_t length = expected_length(wasm.size(), chosen.limit);
+    for (bool is_measured = false;; is_measured = true) {
         Array<char> text(length);
         Array<WasmprinterEvent> table(count);
+        if (is_measured && (text.size() < length || table.size() < count)) {
+            throw std::bad_alloc();
+        }
         WasmprinterResult result = {0, 0, 0};
-        check(wasmprinter_print_lines(bytes_of(wasm), &chosen, {text.data(), length}, {table.data(), count}, &result), result);
-        if (result.length <= length && result.count <= count) {
-            text.resize(result.length);
-            table.resize(result.count);
+        check(wasmprinter_print_lines(bytes_of(wasm), &chosen, {text.data(), text.size()}, {table.data(), table.size()}, &result), result);
+        if (result.length <= text.size() && result.count <= table.size()) {
+            text.shorten(result.length);
+            table.shorten(result.count);
             return {std::move(text), std::move(table)};
         }
         length = result.length;

@@ -353,7 +353,7 @@ class Limits(unittest.TestCase):
 
     def test_capacities(self):
         """The first buffer is not longer than the limit."""
-        for limit, room in ((33, 33), (4263, 4263), (4265, 4264), (None, 4264)):
+        for limit, room in ((33, 33), (4543, 4543), (4545, 4544), (None, 4544)):
             with unittest.mock.patch.object(wasmprinter, "_print", wraps=wasmprinter._print) as function:
                 wasmprinter.print_bytes(ONE_TYPE, limit=limit)
             self.assertEqual(function.call_count, 1)
@@ -456,19 +456,33 @@ class Memory(unittest.TestCase):
         self.assertEqual("".join(event.text for event in events), text)
 
     def test_calls(self):
-        """A text that fits is printed once, and any other twice."""
-        for wasm, indent, calls in ((WITH_NOPS, 2, 1), (ONE_TYPE, self.LONG, 2)):
+        """A text that fits is printed once, and any other twice: here texts with 8, 20, 32 and 34 bytes for each byte of the module."""
+        for wasm, indent, length, calls in (
+            (WITH_NOPS, 2, 32059, 1),
+            (WITH_NOPS, 8, 80077, 1),
+            (WITH_NOPS, 14, 128095, 1),
+            (WITH_NOPS, 15, 136098, 2),
+            (ONE_TYPE, self.LONG, 5030, 2),
+        ):
             with unittest.mock.patch.object(wasmprinter, "_print", wraps=wasmprinter._print) as function:
-                wasmprinter.print_bytes(wasm, indent=indent)
+                self.assertEqual(len(wasmprinter.print_bytes(wasm, indent=indent)), length)
             self.assertEqual(function.call_count, calls)
 
     def test_capacities(self):
-        """The first buffer has 12 bytes for each byte of the module, and the first table an entry for 16 bytes of the buffer, or for 4."""
-        for print_module, lines in ((wasmprinter.print_bytes, 0), (wasmprinter.print_lines, 330), (wasmprinter.print_events, 1130)):
+        """The first buffer has 32 bytes for each byte of the module. The first table has an entry for 16 bytes of a text of 12 bytes, or for 4."""
+        for wasm, limit, print_module, room, entries in (
+            (ONE_TYPE, None, wasmprinter.print_bytes, 4544, 0),
+            (ONE_TYPE, None, wasmprinter.print_lines, 4544, 330),
+            (ONE_TYPE, None, wasmprinter.print_events, 4544, 1130),
+            (ONE_TYPE, 33, wasmprinter.print_lines, 33, 66),
+            (ONE_TYPE, 4400, wasmprinter.print_lines, 4400, 330),
+            (WITH_NOPS, None, wasmprinter.print_lines, 132928, 3339),
+            (WITH_NOPS, None, wasmprinter.print_events, 132928, 13166),
+        ):
             with unittest.mock.patch.object(wasmprinter, "_print", wraps=wasmprinter._print) as function:
-                print_module(ONE_TYPE)
-            out_len, lines_len = function.call_args[0][9], function.call_args[0][11]
-            self.assertEqual((out_len, lines_len), (4264, lines))
+                print_module(wasm, limit=limit)
+            first = function.call_args_list[0][0]
+            self.assertEqual((first[9], first[11]), (room, entries))
 
     def failing(self, longest):
         """Lets allocations of more than a number of bytes fail."""

@@ -30,5 +30,5 @@ compile_both() {
 
 # compile_hpp STANDARD: compiles the test of wasmprinter.hpp in a standard of C++ to the program hpp_STANDARD.
 compile_hpp() {
-    "$cxx" "-std=c++$1" $flags -Ibindings/cpp bindings/cpp/test.cpp "$counted" "$archive" -o "$made/hpp_$1"
+    "$cxx" "-std=c++$1" $flags -Ibindings/cpp bindings/cpp/test.cpp "$counted,--wrap=wasmprinter_raw_print" "$archive" -o "$made/hpp_$1"
 }

@@ -53,8 +53,11 @@ _EVENTS = 16
 # WasmprinterEvent: start, place, kind
 _EVENT = struct.Struct("NQI4x")
 
-# Most texts have less than 12 bytes for each byte of the module, and more than 16 bytes in a line. An event is expected for 4 bytes of the text.
-_TEXT_PER_BYTE, _LEAST_TEXT = 12, 4096
+# Nearly every text has at most 32 bytes for each byte of the module.
+_TEXT_PER_BYTE, _LEAST_TEXT = 32, 4096
+# A table is expected to be that of a text with 12 bytes for each byte of the module: a longer text mostly has longer lines, not more of them. Of
+# that text, most lines have more than 16 bytes, and an event is expected for 4 bytes.
+_TABLE_TEXT_PER_BYTE = 12
 _TEXT_PER_LINE, _TEXT_PER_EVENT, _LEAST_ENTRIES = 16, 4, 64
 
 # factors of the parts of the version number
@@ -339,12 +342,14 @@ def _print_whole(
 ) -> Tuple[memoryview, memoryview]:
     """Returns the text in UTF-8, and the table of its lines or events, which is empty if it is not needed. Raises a subclass of Error.
 
-    An entry of the table is expected for `text_per_entry` bytes of the text. If it is 0, the table is not needed. Nearly every module is printed
-    once. It is printed again if its text or its table is longer than expected, or if there is not enough memory for the expected lengths.
+    An entry of the table is expected for `text_per_entry` bytes of a text with _TABLE_TEXT_PER_BYTE bytes for each byte of the module. If
+    `text_per_entry` is 0, the table is not needed. Nearly every module is printed once. It is printed again if its text or its table is longer than
+    expected, or if there is not enough memory for the expected lengths.
     """
     wasm = data if isinstance(data, bytes) else memoryview(data).tobytes()
     expected = min(len(wasm) * _TEXT_PER_BYTE + _LEAST_TEXT, limit)
-    entries = expected // text_per_entry + _LEAST_ENTRIES if text_per_entry > 0 else 0
+    table_text = min(len(wasm) * _TABLE_TEXT_PER_BYTE + _LEAST_TEXT, limit)
+    entries = table_text // text_per_entry + _LEAST_ENTRIES if text_per_entry > 0 else 0
     text, table = _allocate(expected), _allocate(entries * _EVENT.size)
     result = _Result()
     while True:

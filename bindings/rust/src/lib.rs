@@ -44,6 +44,16 @@ pub fn print_file(path: impl AsRef<Path>) -> Result<String> {
     print_bytes(wasm)
 }
 
+/// The number of bytes of text that are expected for each byte of a module. Nearly every text has at most this number.
+const TEXT_PER_BYTE: usize = 32;
+
+/// A table is expected to be that of a text with this number of bytes for each byte of the module: a longer text mostly has longer lines, not
+/// more of them.
+const TABLE_TEXT_PER_BYTE: usize = 12;
+
+/// The number of bytes of text that are expected in addition, also of an empty module.
+const LEAST_TEXT: usize = 4096;
+
 /// The entries of a table.
 #[derive(Clone, Copy)]
 enum Entries {
@@ -285,13 +295,11 @@ impl Config {
         wasm: &[u8],
         entries: Entries,
     ) -> Result<(String, Vec<sys::WasmprinterEvent>)> {
-        // Most texts have less than 12 bytes for each byte of the module. Pages of an allocation that are not written to take no memory.
-        let expected = wasm.len().saturating_mul(12).saturating_add(4096);
-        let expected = expected.min(self.limit);
         let (mut text, mut table) = (Vec::new(), Vec::new());
-        // If one of these allocations fails, the first round only measures.
-        let _ = text.try_reserve_exact(expected);
-        let _ = table.try_reserve_exact(entries.expected(expected));
+        let (length, count) = self.expected_lengths(wasm.len(), entries);
+        // If one of these allocations fails, the first round only measures. Pages of an allocation that are not written to take no memory.
+        let _ = text.try_reserve_exact(length);
+        let _ = table.try_reserve_exact(count);
         loop {
             let printed = self.print_raw(
                 wasm,
@@ -316,6 +324,16 @@ impl Config {
                 .and_then(|()| table.try_reserve_exact(count))
                 .map_err(|_| Error::Memory)?;
         }
+    }
+
+    /// Returns the expected length of the text of a module with this length, and that of the table of these entries.
+    fn expected_lengths(&self, wasm_len: usize, entries: Entries) -> (usize, usize) {
+        let text_with = |per_byte| {
+            let length = wasm_len.saturating_mul(per_byte);
+            length.saturating_add(LEAST_TEXT).min(self.limit)
+        };
+        let count = entries.expected(text_with(TABLE_TEXT_PER_BYTE));
+        (text_with(TEXT_PER_BYTE), count)
     }
 
     /// Writes as much of the text and of the table of these entries as fits, and returns the lengths of the whole text and table.
@@ -370,6 +388,52 @@ pub fn version() -> (u32, u32, u32) {
 pub fn revision() -> u32 {
     // SAFETY: the function has no requirements.
     unsafe { sys::wasmprinter_revision() }
+}
+
+#[cfg(test)]
+mod tests {
+    use super::{Config, Entries};
+
+    #[test]
+    fn expects_lengths() {
+        for (wasm_len, limit, text, lines, events) in [
+            (0, None, 4096, 320, 1088),
+            (14, None, 4544, 330, 1130),
+            (4026, None, 132928, 3339, 13166),
+            (14000000, None, 448004096, 10500320, 42001088),
+            (4026, Some(132929), 132928, 3339, 13166),
+            (4026, Some(132927), 132927, 3339, 13166),
+            (4026, Some(52400), 52400, 3339, 13164),
+            (4026, Some(0), 0, 64, 64),
+            (4026, Some(33), 33, 66, 72),
+        ] {
+            let mut config = Config::new();
+            config.limit(limit);
+            for (entries, count) in [
+                (Entries::None, 0),
+                (Entries::Lines, lines),
+                (Entries::Events, events),
+            ] {
+                let expected = config.expected_lengths(wasm_len, entries);
+                assert_eq!(expected, (text, count));
+            }
+        }
+    }
+
+    /// An expected length that a `usize` can't hold is the greatest one.
+    #[test]
+    fn expects_no_greater_length() {
+        let mut config = Config::new();
+        for wasm_len in [usize::MAX / 32, usize::MAX] {
+            let (length, _) = config.expected_lengths(wasm_len, Entries::None);
+            assert_eq!(length, usize::MAX);
+        }
+        let (_, count) = config.expected_lengths(usize::MAX, Entries::Events);
+        assert_eq!(count, usize::MAX / 4 + 64);
+        config.limit(Some(9));
+        let lengths = config.expected_lengths(usize::MAX, Entries::Lines);
+        assert_eq!(lengths, (9, 64));
+    }
 }
 
 /// The example of the page for users.

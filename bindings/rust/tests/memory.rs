@@ -10,6 +10,15 @@ const EMPTY: &[u8] = b"\0asm\x01\0\0\0";
 /// A module with one type.
 const ONE_TYPE: &[u8] = b"\0asm\x01\0\0\0\x01\x04\x01\x60\0\0";
 
+/// Returns a module with a function of 4000 `nop`s.
+fn with_nops() -> Vec<u8> {
+    let mut wasm = ONE_TYPE.to_vec();
+    wasm.extend(b"\x03\x02\x01\0\x0a\xa5\x1f\x01\xa2\x1f\0");
+    wasm.extend([0x01; 4000]);
+    wasm.push(0x0b);
+    wasm
+}
+
 thread_local! {
     /// Allocations of this thread that are longer than this number of bytes fail.
     static MOST: Cell<usize> = const { Cell::new(usize::MAX) };
@@ -82,6 +91,25 @@ fn allocates_no_more_than_the_limit() {
         let printed = config.print_to_string(EMPTY);
         assert_eq!(LARGEST.with(Cell::get), limit);
         assert_eq!(printed.as_deref().map_err(|error| *error), text);
+    }
+}
+
+/// The first allocation has 32 bytes for each of the 4026 bytes of the module, and 4096 more. Only a longer text needs a second one.
+#[test]
+fn allocates_again_for_a_long_text() {
+    let wasm = with_nops();
+    let mut config = Config::new();
+    for (indent, length, largest) in [
+        (2, 32059, 132928),
+        (8, 80077, 132928),
+        (14, 128095, 132928),
+        (15, 136098, 136098),
+    ] {
+        config.indent_text(" ".repeat(indent));
+        LARGEST.with(|cell| cell.set(0));
+        let text = config.print_to_string(&wasm).expect("a text");
+        assert_eq!(LARGEST.with(Cell::get), largest);
+        assert_eq!(text.len(), length);
     }
 }
 

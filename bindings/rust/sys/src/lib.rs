@@ -1,8 +1,8 @@
 //! Declarations of the proved library `libwasmprinter`, which prints WebAssembly modules in the text format.
 //!
-//! The crate `wasmprinter-proved` has safe functions for Rust. This crate has the constants, the records and the exported functions of
-//! `wasmprinter.h`, with its names. Every length is a number of bytes, at most `isize::MAX`, unless stated otherwise. Every place is a byte
-//! offset from the start of the module.
+//! The crate `wasmprinter-proved` has safe functions for Rust. This crate has the constants and the exported functions of `wasmprinter.h`, and the
+//! two records that these functions take, with its names. Every length is a number of bytes, at most `isize::MAX`, unless stated otherwise. Every
+//! place is a byte offset from the start of the module.
 //!
 //! The build script links `libwasmprinter.a` from the folder that the environment variable `WASMPRINTER_LIB` names, or that
 //! `pkg-config wasmprinter` names. Without the library `cargo check` and `cargo doc` work, but no program can be linked.
