@@ -5,7 +5,9 @@ use std::alloc::Global;
 use std::io;
 use std::test::Fail;
 use wasmprinter::Error;
-use wasmprinter::print::{NoColor, Print, PrintFmtWrite, PrintIoWrite, PrintText, WriteBytes};
+use wasmprinter::print::{
+    NoColor, Print, PrintFmtWrite, PrintIoWrite, PrintText, WriteBytes, WriteText,
+};
 use wasmprinter::printer_laws::text_printers_gain_the_text;
 use wasmprinter_samples::{EMPTY_TEXT, PREAMBLE, expect_text};
 
@@ -78,6 +80,15 @@ fn writes_bytes_whole(rt: HostRuntime) -> Result<(), Fail> {
     bytes.write_bytes(b"ab")?;
     bytes.write_bytes(b"c")?;
     assert!(rt; bytes.as_slice() == b"abc".as_slice());
+    Ok(())
+}
+
+#[test]
+fn writes_text_whole(rt: HostRuntime) -> Result<(), Fail> {
+    let mut text = String::new(rt.alloc());
+    assert!(rt; text.write_text("ab").is_ok());
+    assert!(rt; text.write_text("c").is_ok());
+    expect_text(text.as_str(), "abc")?;
     Ok(())
 }
 
