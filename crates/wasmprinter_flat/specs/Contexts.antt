@@ -8,7 +8,7 @@ use Rattle.wasmprinter_spec.specs.Labels.{Label, labels_outside, labels_inside}
 use Rattle.wasmprinter_spec.specs.Operator.{Immediates, Catch}
 use Rattle.wasmprinter_spec.specs.Piece.{Piece}
 use Rattle.wasmprinter_spec.specs.Layout.Operators.{Setting, immediate_pieces, catch_pieces, catches_pieces}
-use Rattle.wasmprinter_ops.specs.Shapes.{role_view}
+use Rattle.wasmprinter_spec.specs.Table.{role_of}
 use Rattle.wasmprinter_flat.specs.OpenLabels.LabelState.{names_of, own_label}
 use Rattle.wasmprinter_flat.specs.Settings.{setting_view}
 use Rattle.wasmprinter_flat.specs.declared.immediate_context.Context.{Context}
@@ -23,11 +23,11 @@ setting_in signature_at c = setting_view signature_at c.setting.now (names_in c)
 
 -- The labels that the operator may refer to.
 abbrev pub labels_around : {S : Type 0} → Context S → List Label
-labels_around c = labels_outside (role_view c.role) c.labels.now.labels
+labels_around c = labels_outside (role_of c.opcode) c.labels.now.labels
 
 -- The labels further in than these.
 abbrev pub labels_within : {S : Type 0} → Context S → List Label
-labels_within c = labels_inside (role_view c.role) c.labels.now.labels
+labels_within c = labels_inside (role_of c.opcode) c.labels.now.labels
 
 -- The label of the block that the operator opens, if it opens one.
 abbrev pub own_in : {S : Type 0} → Context S → Label

@@ -11,7 +11,7 @@ ghost use Rattle.wasmprinter_flat.specs.Contexts.{names_in, labels_around, opera
 use crate::open_labels::OpenLabels;
 use crate::operators::Setting;
 use wasmprinter_custom::{Identifier, Identifiers, Space as NamedSpace};
-use wasmprinter_ops::opcode_shapes_arities_and_roles::{Role, Space};
+use wasmprinter_ops::opcode_shapes_arities_and_roles::{Listed, Opcode, Role, Space};
 use wasmprinter_text::type_use::Signatures;
 
 /// The context in which an operator's immediates are printed.
@@ -21,8 +21,8 @@ pub(crate) struct Context<'c, 's, 'n, 'a, S: Signatures> {
     pub(crate) setting: &'c Setting<'s, S>,
     /// The labels that are open before the operator.
     pub(crate) labels: &'c OpenLabels<'n, 'a>,
-    /// The role of the operator.
-    pub(crate) role: Role,
+    /// The opcode of the operator.
+    pub(crate) opcode: Opcode,
 }
 
 /// Returns the space of names for an index space, or `None` for labels, whose identifiers follow another rule.
@@ -88,6 +88,6 @@ impl<'n, 'a, S: Signatures> Context<'_, '_, 'n, 'a, S> {
         requires { length self.now.labels.now.labels + 1 < 2 ^ 64 }
         ensures { result ≡ suc (length (labels_around self.now)) }
     {
-        depth_outside(self.role, self.labels.depth()) + 1
+        depth_outside(self.opcode.role(), self.labels.depth()) + 1
     }
 }

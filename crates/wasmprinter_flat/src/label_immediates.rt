@@ -10,6 +10,7 @@ use crate::immediate_context::Context;
 use crate::open_labels::LabelRef;
 use wasmprinter_custom::Identifier;
 use wasmprinter_ops::block_immediates::Targets;
+use wasmprinter_ops::opcode_shapes_arities_and_roles::Listed;
 use wasmprinter_print::Output;
 use wasmprinter_text::comments::{write_depth_comment, write_unstyled_comment};
 use wasmprinter_text::declarations_and_indices::{write_id_and_name, write_index};
@@ -61,7 +62,7 @@ pub(crate) fn write_label<O: Output, S: Signatures>(
     ensures { O.wrote out.old out.new
         (label_pieces (labels_within context.now) (labels_around context.now) label) }
 {
-    match context.labels.find(context.role, label) {
+    match context.labels.find(context.opcode.role(), label) {
         LabelRef::ByName(identifier) => write_by_name(out, identifier, label),
         LabelRef::ByNumber => write_space_index(out, label),
         LabelRef::ToBlock(block) => write_around(out, u64::from(label), block),

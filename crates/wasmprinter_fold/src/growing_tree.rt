@@ -7,6 +7,7 @@ ghost use Rattle.wasmprinter_spec.specs.Folding.Arities.{signatures_within, coun
 ghost use Rattle.wasmprinter_spec.specs.Folding.Code.{nested_code_of};
 ghost use Rattle.wasmprinter_spec.specs.Layout.Folded.{items};
 ghost use Rattle.wasmprinter_fold.specs.Building.{StateOf, Plain, Opens, OpensIf, Else, Ends, start};
+ghost use Rattle.wasmprinter_ops.specs.Shapes.{role_view};
 ghost use Rattle.wasmprinter_flat.specs.Settings.{setting_with_names};
 ghost use Rattle.wasmprinter_fold.specs.Counted.{counts_view};
 ghost use Rattle.wasmprinter_fold.specs.Shown.{ShownNode};
@@ -158,7 +159,7 @@ impl GrowingTree {
         self.builder.end()
     }
 
-    /// Adds an operator with these numbers of operands and results. `fold` stops at the first `try`, `catch`,
+    /// Adds an operator with this role and these numbers of operands and results. `fold` stops at the first `try`, `catch`,
     /// `catch_all` or `delegate`, so this function never gets one; its `match` treats them like `end`. A hint before an
     /// `else` or an `end` is dropped: a module with such a hint is refused before anything is printed.
     fn add<S: Signatures>(
@@ -166,17 +167,18 @@ impl GrowingTree {
         setting: &Setting<'_, S>,
         labels: &OpenLabels<'_, '_>,
         next: HintedOperator<'_, '_>,
+        role: Role,
         counts: Counts,
     ) -> Result<(), AllocError>
         requires room { length labels.now.labels + 1 < 2 ^ 64 }
+        requires role { role_view role ≡ role_of next.operator.now.opcode }
         requires shows { (s : StateOf ShownNode) × Shows self.old s }
         ensures color { self.new.texts.color ≡ self.old.texts.color }
         ensures labels { self.new.labels ≡ self.old.labels }
         ensures steps { OnOk result (GrowsByStep self.old self.new (operator_step self.old.texts.color
             (setting_with_names S.signature_at setting.now labels.now) labels.now next.entry.place next.entry.hint next.entry.operator.now (counts_view counts))) }
     {
-        let operator = next.operator;
-        match operator.opcode.role() {
+        match role {
             Role::Plain => self.plain(setting, labels, next, counts),
             Role::Opens => self.open(setting, labels, next, counts),
             Role::OpensIf => self.open_if(setting, labels, next, counts),
@@ -187,7 +189,7 @@ impl GrowingTree {
         }
     }
 
-    /// Adds the next operator. `labels` are those that are open before it.
+    /// Adds the next operator, whose role is `role`. `labels` are those that are open before it.
     fn fold_next<S: Signatures>(
         &mut self,
         callees: &FunctionAndTagTypes<'_, '_>,
@@ -195,8 +197,10 @@ impl GrowingTree {
         labels: &OpenLabels<'_, '_>,
         own: Option<u32>,
         next: HintedOperator<'_, '_>,
+        role: Role,
     ) -> Result<(), AllocError>
         requires room { length labels.now.labels + 1 < 2 ^ 64 }
+        requires role { role_view role ≡ role_of next.operator.now.opcode }
         requires shows { (s : StateOf ShownNode) × Shows self.old s }
         ensures color { self.new.texts.color ≡ self.old.texts.color }
         ensures labels { OnOk result (self.new.labels ≡ labels_after (role_of next.entry.operator.now.opcode)
@@ -207,8 +211,8 @@ impl GrowingTree {
     {
         let operator = next.operator;
         let counts = counts_of(callees, own, &self.labels, operator);
-        self.add(setting, labels, next, counts)?;
-        match operator.opcode.role() {
+        self.add(setting, labels, next, role, counts)?;
+        match role {
             Role::Plain => Ok(()),
             role => self.labels.advance(role, label_of_block(callees, operator)),
         }
@@ -242,18 +246,21 @@ impl GrowingTree {
         self.clear();
         labels.begin(setting.function);
         let mut hints = hints;
-        for (place, operator) in expression.operators() {
+        // The operator is not moved out of the item, since its bytes would be copied.
+        for item in expression.operators() {
+            let place = item.0;
+            let operator = &item.1;
             let role = operator.opcode.role();
             if role.is_of_try() {
                 return Ok(false);
             }
             let hint = take_hint(&mut hints, place.saturating_sub(setting.body));
             let next = HintedOperator {
-                operator: &operator,
+                operator,
                 place,
                 hint,
             };
-            self.fold_next(callees, setting, labels, own, next)?;
+            self.fold_next(callees, setting, labels, own, next, role)?;
             labels.advance(role);
         }
         Ok(true)

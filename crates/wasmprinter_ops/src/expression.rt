@@ -44,6 +44,7 @@ impl<'a> Iterator for OperatorsReader<'a> {
 
     ghost remaining = { item_count pairs };
 
+    #[inline(always)]
     fn next(&mut self) -> Option<(u64, Operator<'a>)> {
         if self.cursor.is_empty() {
             return None;

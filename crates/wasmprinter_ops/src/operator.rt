@@ -337,6 +337,7 @@ impl<'a> Operator<'a> {
 /// `Malformed` if the bytes do not encode an operator, with the place of the opcode if the table does not list it, and
 /// otherwise with a place as [`Error::Malformed`](wasmprinter_bytes::Error::Malformed) describes it. The contract only
 /// says that this place is not before the cursor's and not after the end of the bytes; tests check it.
+#[inline(always)]
 pub fn read_operator<'a>(cursor: &mut Cursor<'a>) -> Result<Operator<'a>, Malformed>
     ensures { Decodes (λ o. o) operator.parse cursor.old result cursor.new }
 {
@@ -356,6 +357,7 @@ pub fn read_operator<'a>(cursor: &mut Cursor<'a>) -> Result<Operator<'a>, Malfor
 /// # Errors
 ///
 /// As [`read_operator`].
+#[inline(always)]
 pub fn read_placed<'a>(cursor: &mut Cursor<'a>) -> Result<(u64, Operator<'a>), Malformed>
     ensures { Decodes placed_view (value_with_place operator).parse cursor.old result cursor.new }
 {

@@ -5,4 +5,4 @@ use Rattle.wasmprinter_flat.proofs.operators.write_operator_word.Goals as goal
 
 pub write_immediates_by_shape-requires-clause-shape : goal.write_immediates_by_shape-requires-clause-shape
 write_immediates_by_shape-requires-clause-shape g c =
-    listed-fits c.operator.inside.opcode _ _ c.operator.invariant.0 (sym c.shape.ensures ∙ ap optional_shape_view c.in-Some.is)
+    listed-fits c.operator.inside.opcode _ _ c.operator.invariant.0 (sym c.word_and_shape-shape.ensures.shape ∙ ap optional_shape_view c.in-Some.is)

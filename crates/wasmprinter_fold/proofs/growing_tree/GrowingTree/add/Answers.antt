@@ -1,6 +1,4 @@
-use Rattle.std.proofs.Common.{ap, ◌∙◌, codes}
-use Rattle.wasmprinter_spec.specs.Operator.{Operator}
-use Rattle.wasmprinter_spec.specs.Table.{role_of}
+use Rattle.std.proofs.Common.{codes}
 use Rattle.wasmprinter_ops.specs.Shapes.{role_view}
 use Rattle.wasmprinter_flat.specs.Settings.{setting_with_names}
 use Rattle.wasmprinter_fold.specs.Counted.{counts_view}
@@ -17,7 +15,7 @@ returns-in-Plain-clause-steps g c =
     let then = shown_keyword color c.args.next.place (codes "then") in
     let otherwise = shown_keyword color c.args.next.place (codes "else") in
     same_step c.plain.result c.args.self.now c.plain.new.self _ _
-    (by_role (role_view c.role.result) _ x then otherwise (counts_view c.args.counts) (c.role.ensures ∙ ap (λ (o : Operator). role_of o.opcode) c.operator.view_is))
+    (by_role (role_view c.args.role) _ x then otherwise (counts_view c.args.counts) c.requires.role)
     (rw (c.in-Plain.is) c.plain.ensures.steps)
 
 pub returns-in-Opens-clause-steps : goal.returns-in-Opens-clause-steps
@@ -29,7 +27,7 @@ returns-in-Opens-clause-steps g c =
     let then = shown_keyword color c.args.next.place (codes "then") in
     let otherwise = shown_keyword color c.args.next.place (codes "else") in
     same_step c.open.result c.args.self.now c.open.new.self _ _
-    (by_role (role_view c.role.result) _ x then otherwise (counts_view c.args.counts) (c.role.ensures ∙ ap (λ (o : Operator). role_of o.opcode) c.operator.view_is))
+    (by_role (role_view c.args.role) _ x then otherwise (counts_view c.args.counts) c.requires.role)
     (rw (c.in-Opens.is) c.open.ensures.steps)
 
 pub returns-in-OpensIf-clause-steps : goal.returns-in-OpensIf-clause-steps
@@ -41,7 +39,7 @@ returns-in-OpensIf-clause-steps g c =
     let then = shown_keyword color c.args.next.place (codes "then") in
     let otherwise = shown_keyword color c.args.next.place (codes "else") in
     same_step c.open_if.result c.args.self.now c.open_if.new.self _ _
-    (by_role (role_view c.role.result) _ x then otherwise (counts_view c.args.counts) (c.role.ensures ∙ ap (λ (o : Operator). role_of o.opcode) c.operator.view_is))
+    (by_role (role_view c.args.role) _ x then otherwise (counts_view c.args.counts) c.requires.role)
     (rw (c.in-OpensIf.is) c.open_if.ensures.steps)
 
 pub returns-in-Else-clause-steps : goal.returns-in-Else-clause-steps
@@ -53,7 +51,7 @@ returns-in-Else-clause-steps g c =
     let then = shown_keyword color c.args.next.place (codes "then") in
     let otherwise = shown_keyword color c.args.next.place (codes "else") in
     same_step c.turn.result c.args.self.now c.turn.new.self _ _
-    (by_role (role_view c.role.result) _ x then otherwise (counts_view c.args.counts) (c.role.ensures ∙ ap (λ (o : Operator). role_of o.opcode) c.operator.view_is))
+    (by_role (role_view c.args.role) _ x then otherwise (counts_view c.args.counts) c.requires.role)
     (rw (c.in-Else.is) c.turn.ensures.steps)
 
 pub returns-in-OpensTry : goal.returns-in-OpensTry
@@ -69,5 +67,5 @@ returns-in-OpensTry g c =
       labels = c.end.ensures.labels;
       steps =
           same_step c.end.result c.args.self.now c.end.new.self _ _
-          (ends_role c.role.result _ x then otherwise (counts_view c.args.counts) c.in-OpensTry.is (c.role.ensures ∙ ap (λ (o : Operator). role_of o.opcode) c.operator.view_is)) c.end.ensures.steps;
+          (ends_role c.args.role _ x then otherwise (counts_view c.args.counts) c.in-OpensTry.is c.requires.role) c.end.ensures.steps;
     }

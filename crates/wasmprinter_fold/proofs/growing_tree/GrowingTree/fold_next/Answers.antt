@@ -1,17 +1,15 @@
-use Rattle.std.proofs.Common.{ap, ◌∙◌, sym}
+use Rattle.std.proofs.Common.{◌∙◌, sym}
 use Rattle.std.proofs.lemmas.Result.{on_ok_weaker}
-use Rattle.wasmprinter_spec.specs.Operator.{Operator}
-use Rattle.wasmprinter_spec.specs.Table.{role_of}
 use Rattle.wasmprinter_fold.proofs.Growing.{same_counts, plain_labels}
 use Rattle.wasmprinter_fold.proofs.growing_tree.GrowingTree.fold_next.Goals as goal
 
 pub returns-in-Plain-clause-labels : goal.returns-in-Plain-clause-labels
 returns-in-Plain-clause-labels g c =
-    c.in_ok-add.ensures.labels ∙ sym (plain_labels c.role.result _ _ _ c.in-Plain.is (c.role.ensures ∙ ap (λ (o : Operator). role_of o.opcode) c.operator.view_is))
+    c.in_ok-add.ensures.labels ∙ sym (plain_labels c.args.role _ _ _ c.in-Plain.is c.requires.role)
 
 pub returns-in_default-clause-labels : goal.returns-in_default-clause-labels
 returns-in_default-clause-labels g c =
     on_ok_weaker c.advance.result
     (λ e. e
-    ∙ same_counts _ _ _ _ _ _ (c.role.ensures ∙ ap (λ (o : Operator). role_of o.opcode) c.operator.view_is) (c.label_of_block.ensures c.args.own)
+    ∙ same_counts _ _ _ _ _ _ c.requires.role (c.label_of_block.ensures c.args.own)
     c.in_ok-add.ensures.labels) c.advance.ensures.ok
