@@ -106,6 +106,3 @@ pub fn early_refusal_of(alloc: Global, wasm: &[u8]) -> Option<Error> {
         && recorder.is_complete();
     if is_unused { printed.err() } else { None }
 }
-
-#[cfg(test)]
-mod tests;

@@ -3,14 +3,10 @@
 ghost use Rattle.std.specs.Prelude.{◌≡◌, false};
 ghost use Rattle.wasmprinter_samples.specs.Counting.{Counts, counting};
 
-#[cfg(test)]
-use crate::expect_text;
 use std::alloc::{AllocError, Global};
 use std::io;
 use std::io::ErrorKind;
 use std::marker::Model;
-#[cfg(test)]
-use std::test::Fail;
 use wasmprinter_print::Print;
 
 /// The mark that is recorded after a call that failed.
@@ -213,27 +209,4 @@ impl Print for Recorder {
     fn supports_async_color(&self) -> bool {
         false
     }
-}
-
-#[test]
-fn writes_down_each_call_at_once(rt: HostRuntime) -> Result<(), Fail> {
-    let mut recorder = Recorder::with_refusal(rt.alloc(), 5, ErrorKind::BrokenPipe);
-    recorder.start_line(None);
-    recorder.start_line(Some(31));
-    recorder.write_str("[0]\n{K}\\")?;
-    recorder.newline()?;
-    recorder.start_keyword()?;
-    assert!(rt; !recorder.print_custom_section("a\"b", 8, &[1, 2])?);
-    let refused = recorder.start_type();
-    assert!(rt; matches!(refused, Err(e) if e.kind() == ErrorKind::BrokenPipe));
-    recorder.reset_color()?;
-    recorder.start_line(Some(0));
-    expect_text(
-        recorder.calls(),
-        "[][0x1f]\\[0\\]\\n\\{K\\}\\\\\n{K}{? \"a\\\"b\" 0x8 [1, 2]}{T}{!}{R}[0x0]",
-    )?;
-    assert!(rt; recorder.call_count() == 6);
-    assert!(rt; recorder.faults() == 1);
-    assert!(rt; recorder.is_complete());
-    Ok(())
 }

@@ -43,13 +43,3 @@ pub fn expect_same(name: &'static str, text: &str, typed: &str) -> Result<(), Fa
         Err(different) => Err((name, different))?,
     }
 }
-
-#[test]
-fn prints_the_first_line_that_differs(rt: HostRuntime) -> Result<(), Fail> {
-    expect_text("", "")?;
-    expect_text("(module)\n", "(module)\n")?;
-    assert!(rt; expect_text("(module)\n", "(module)") == Err(Different::Line(2)));
-    assert!(rt; expect_text("a\nb", "a\nc") == Err(Different::Line(2)));
-    assert!(rt; expect_text("b\na", "c\na") == Err(Different::Line(1)));
-    Ok(())
-}
