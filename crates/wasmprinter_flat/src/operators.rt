@@ -11,7 +11,7 @@ use crate::immediates::write_immediates_by_shape;
 use crate::open_labels::OpenLabels;
 use wasmprinter_custom::{FunctionHints, Hint};
 use wasmprinter_ops::expression::Expression;
-use wasmprinter_ops::opcode_shapes_arities_and_roles::{Listed, Role};
+use wasmprinter_ops::opcode_shapes_arities_and_roles::{Listed, Role, word_and_shape};
 use wasmprinter_ops::operator::Operator;
 use wasmprinter_print::Output;
 use wasmprinter_text::hints::write_hint_annotation;
@@ -93,7 +93,7 @@ pub fn write_operator_word<O: Output, S: Signatures>(
     requires { length labels.now.labels + 1 < 2 ^ 64 }
     ensures { O.wrote out.old out.new (word_pieces_with_names S.signature_at setting.now labels.now operator.now) }
 {
-    let (word, shape) = operator.opcode.word_and_shape();
+    let (word, shape) = word_and_shape(operator.opcode);
     write_word(out, word);
     if let Some(shape) = shape {
         let context = Context {

@@ -302,18 +302,6 @@ impl Opcode {
         }
     }
 
-    /// Returns the word in the text, as [`Opcode::word`] does, and the shape of the immediates, as [`Listed::shape`] does,
-    /// by one look-up.
-    pub fn word_and_shape(&self) -> (&'static str, Option<Shape>)
-        ensures word { result.0.now ≡ word_of self.now }
-        ensures shape { optional_shape_view result.1 ≡ shape_of self.now }
-    {
-        match self.entry() {
-            Some((word, shape, _)) => (word, Some(shape)),
-            None => ("", None),
-        }
-    }
-
     /// Returns the word in the text, which is empty for an opcode that the table does not list.
     pub fn word(&self) -> &'static str
         ensures { result.now ≡ word_of self.now }
@@ -322,6 +310,18 @@ impl Opcode {
             Some((word, _, _)) => word,
             None => "",
         }
+    }
+}
+
+/// Returns the word in the text, as [`Opcode::word`] does, and the shape of the immediates, as [`Listed::shape`] does, by
+/// one look-up.
+pub fn word_and_shape(opcode: Opcode) -> (&'static str, Option<Shape>)
+    ensures word { result.0.now ≡ word_of opcode }
+    ensures shape { optional_shape_view result.1 ≡ shape_of opcode }
+{
+    match opcode.entry() {
+        Some((word, shape, _)) => (word, Some(shape)),
+        None => ("", None),
     }
 }
 
