@@ -7,7 +7,7 @@
 #![tactic(auto)]
 
 ghost use Rattle.std.specs.Prelude.{◌≡◌, IfOk, IfErr, map, string_bytes};
-ghost use Rattle.example_compare.specs.Outcome.{status_of, Compares, IsRefused};
+ghost use Rattle.example_compare.specs.Outcome.{status_of, Compares, IsRefused, IsFailureOf};
 ghost use Rattle.wasmprinter.specs.TextOfFile.{IsTextOfFile};
 
 mod difference;
@@ -82,7 +82,8 @@ fn run<'a, S: Source>(
     alloc: Global,
     words: &'a [String],
 ) -> Result<Option<String>, Failure<'a>>
-    ensures { IfOk result (Compares (S.may_read source.now) (map string_bytes words.now)) }
+    ensures compared { IfOk result (Compares (S.may_read source.now) (map string_bytes words.now)) }
+    ensures failed { IfErr result (IsFailureOf (S.may_read source.now) (map string_bytes words.now)) }
 {
     let [left, right] = words else {
         return Err(Failure::Usage);

@@ -2,3 +2,5 @@
 pub mod Places
 pub mod Answers
 pub mod Status
+pub mod Queries
+pub mod Outcome

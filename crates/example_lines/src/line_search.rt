@@ -1,5 +1,5 @@
 //! Searching the lines of a text.
-ghost use Rattle.std.specs.Prelude.{◌<◌, MatchOption, IfSome, length};
+ghost use Rattle.std.specs.Prelude.{◌<◌, MatchOption, IfSome, length, map};
 ghost use Rattle.example_lines.specs.Places.{ShowsByte, IsAfterByte};
 ghost use Rattle.example_lines.specs.Answers.{IsIndexFor, IsOutside};
 
@@ -12,7 +12,8 @@ pub type Line<'a> = (Option<u64>, &'a str);
 /// the module has no such byte, if no line shows it, or if the text has no such line.
 pub fn find(lines: &[Line<'_>], len: usize, query: Query) -> Option<usize>
     ensures within { IfSome result (λ index. index < length lines.now) }
-    ensures found { MatchOption result (IsOutside lines.now len query) (IsIndexFor lines.now len query) }
+    ensures found { let places = map (λ line. line.0) lines.now in
+        MatchOption result (IsOutside places len query) (IsIndexFor places len query) }
 {
     match query {
         Query::Byte(offset) if offset < len as u64 => line_of_byte(lines, offset),
@@ -28,7 +29,8 @@ pub fn find(lines: &[Line<'_>], len: usize, query: Query) -> Option<usize>
 /// functions in the module.
 fn line_of_byte(lines: &[Line<'_>], offset: u64) -> Option<usize>
     ensures within { IfSome result (λ index. index < length lines.now) }
-    ensures found { MatchOption result (IsAfterByte lines.now offset) (ShowsByte lines.now offset) }
+    ensures found { let places = map (λ line. line.0) lines.now in
+        MatchOption result (IsAfterByte places offset) (ShowsByte places offset) }
 {
     let mut found = None;
     let mut greatest = 0;

@@ -2,12 +2,16 @@
 //! in decimal or, after `0x`, in hexadecimal. `example_lines FILE line:NUMBER` maps the other way. Both print the number
 //! of the line, the byte offset at which it starts, and its text.
 //!
-//! `run` does the work. It reads from any [`Source`] and prints nothing, so tests can run it over files in memory. `main`
-//! and `start` do the rest: arguments, output and exit status.
+//! `run` does the work. It reads from any [`Source`] and prints nothing, so its contract can say which answer it returns,
+//! and tests can run it over files in memory. `main` and `start` do the rest: arguments, output and exit status.
 #![tactic(auto)]
 
-ghost use Rattle.std.specs.Prelude.{◌≡◌};
+ghost use Rattle.std.specs.Prelude.{◌≡◌, IfOk, IfErr, map, option_map, string_bytes};
+ghost use Rattle.wasmprinter_spec.specs.Options.{defaults};
+ghost use Rattle.wasmprinter.specs.TextOfFile.{IsRefusedBy, AreRefused};
 ghost use Rattle.example_lines.specs.Status.{status_of};
+ghost use Rattle.example_lines.specs.Outcome.{answer_text, AnswersQuery, AnswersFromFile};
+ghost use Rattle.example_lines.specs.Outcome.{GivesAnswer, IsFailureOf};
 
 mod line_search;
 mod query;
@@ -16,7 +20,7 @@ mod tests;
 
 use line_search::{Line, find};
 use query::Query;
-use std::alloc::Global;
+use std::alloc::{AllocError, Global};
 use std::path::Path;
 use std::process::ExitCode;
 use std::{env, fmt, io};
@@ -65,13 +69,20 @@ fn start(rt: &HostRuntime) -> io::Result<u8> {
 }
 
 /// Returns the answer to the words, which name a file, and a byte of its module or a line of its text.
-fn run<S: Source>(source: &S, alloc: Global, words: &[String]) -> Result<String, Failure> {
+fn run<S: Source>(source: &S, alloc: Global, words: &[String]) -> Result<String, Failure>
+    ensures answered { IfOk result (λ answer.
+        GivesAnswer (S.may_read source.now) (map string_bytes words.now) (string_bytes answer)) }
+    ensures failed { IfErr result (IsFailureOf (S.may_read source.now) (map string_bytes words.now)) }
+{
     let [file, word] = words else {
         return Err(Failure::Usage);
     };
     let query = Query::from_word(word.as_str()).ok_or(Failure::Usage)?;
-    let answer = answer(source, alloc, file.as_str(), query).map_err(Failure::Refused)?;
-    answer.ok_or(Failure::Outside(query))
+    match answer(source, alloc, file.as_str(), query) {
+        Ok(Some(answer)) => Ok(answer),
+        Ok(None) => Err(Failure::Outside(query)),
+        Err(error) => Err(Failure::Refused(error)),
+    }
 }
 
 /// Returns the answer to a query about the module in a file, or `None` if the module has no such byte, or its text no
@@ -81,21 +92,39 @@ fn answer<S: Source>(
     alloc: Global,
     file: &str,
     query: Query,
-) -> Result<Option<String>, Error> {
+) -> Result<Option<String>, Error>
+    ensures answered { IfOk result (λ answer.
+        AnswersFromFile (S.may_read source.now file.entry.now) query (option_map string_bytes answer)) }
+    ensures refused { IfErr result (IsRefusedBy defaults (S.may_read source.now file.entry.now)) }
+{
     let wasm = source.read(Path::new(file)).map_err(|_| Error::Unreadable)?;
+    answer_for_bytes(alloc, &wasm, query)
+}
+
+/// Returns the answer to a query about the module that the bytes encode, or `None` if the module has no such byte, or
+/// its text no such line.
+fn answer_for_bytes(alloc: Global, wasm: &[u8], query: Query) -> Result<Option<String>, Error>
+    ensures answered { IfOk result (λ answer. AnswersQuery wasm.now query (option_map string_bytes answer)) }
+    ensures refused { IfErr result (AreRefused defaults wasm.now) }
+{
     let mut storage = String::new(alloc);
-    let text = Config::new().offsets_and_lines(alloc, &wasm, &mut storage)?;
+    let text = Config::new().offsets_and_lines(alloc, wasm, &mut storage)?;
     let lines: Vec<Line<'_>> = text.collect(alloc)?;
-    let Some(index) = find(&lines, wasm.len(), query) else {
-        return Ok(None);
-    };
-    let (place, text) = lines[index];
-    let number = index + 1;
-    let text = text.trim();
-    Ok(Some(match place {
-        Some(place) => format!(in alloc; "line {number} starts at byte 0x{place:x}: {text}")?,
-        None => format!(in alloc; "line {number} shows no byte: {text}")?,
-    }))
+    match find(&lines, wasm.len(), query) {
+        None => Ok(None),
+        Some(index) => Ok(Some(describe(alloc, index + 1, lines[index])?)),
+    }
+}
+
+/// Returns the answer that shows a line with this number, counted from 1.
+fn describe(alloc: Global, number: usize, line: Line<'_>) -> Result<String, AllocError>
+    ensures { IfOk result (λ answer. string_bytes answer ≡ answer_text number (line.entry.0, line.entry.1.now)) }
+{
+    let text = line.1.trim();
+    match line.0 {
+        Some(place) => format!(in alloc; "line {number} starts at byte 0x{place:x}: {text}"),
+        None => format!(in alloc; "line {number} shows no byte: {text}"),
+    }
 }
 
 impl Failure {

@@ -1,4 +1,6 @@
 //! What the second argument asks for.
+ghost use Rattle.std.specs.Prelude.{MatchOption};
+ghost use Rattle.example_lines.specs.Queries.{AsksFor, AsksForNothing};
 
 /// A query about a module and its text.
 #[derive(Clone, Copy, Debug)]
@@ -10,9 +12,11 @@ pub enum Query {
 }
 
 impl Query {
-    /// Returns what a word asks for: `12` and `0xc` for the byte at that offset, `line:12` for that line. Returns `None`
-    /// if the word has another form, or if its number exceeds 64 bits.
-    pub fn from_word(word: &str) -> Option<Query> {
+    /// Returns what a word asks for: `12` and `0xc` for the byte at that offset, `line:12` for that line. A plus sign may
+    /// precede the digits. Returns `None` if the word has another form, or if its number exceeds 64 bits.
+    pub fn from_word(word: &str) -> Option<Query>
+        ensures { MatchOption result (AsksForNothing word.now) (AsksFor word.now) }
+    {
         if let Some(number) = word.strip_prefix("line:") {
             return number.parse().ok().map(Query::Line);
         }
