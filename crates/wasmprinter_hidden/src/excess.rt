@@ -1,0 +1,46 @@
+//! Comparing the number of bytes of an item with that of its shortest encoding.
+ghost use Rattle.std.specs.Prelude.{◌≡◌, ◌-◌};
+ghost use Rattle.wasmprinter_hidden.specs.Lengths.{unsigned_len};
+
+/// The bytes of an item that are left when those that its shortest encoding needs are taken away.
+#[derive(Clone, Copy)]
+pub(crate) struct Excess {
+    pub(crate) bytes: u64,
+}
+
+/// A value with a shortest encoding.
+pub(crate) trait Shortest {
+    ghost use Rattle.std.specs.Prelude.{ℕ};
+
+    /// The number of bytes of the shortest encoding.
+    ghost len: { Self → ℕ };
+
+    /// Takes the bytes of the shortest encoding away.
+    fn take_from(&self, excess: &mut Excess)
+        ensures { excess.new.bytes ≡ excess.old.bytes - len self.now };
+}
+
+impl Excess {
+    /// Takes bytes away, or all that are left if they are fewer.
+    pub(crate) fn take(&mut self, bytes: u64)
+        ensures { self.new.bytes ≡ self.old.bytes - bytes }
+    {
+        self.bytes = self.bytes.saturating_sub(bytes);
+    }
+}
+
+/// The base of the digits of numbers in LEB128.
+const BASE: u64 = 128;
+
+/// Returns the number of bytes of the shortest encoding of an unsigned integer in LEB128.
+pub(crate) fn unsigned_len(number: u64) -> u64
+    ensures { result ≡ unsigned_len number }
+{
+    let mut rest = number;
+    let mut len = 1;
+    while rest >= BASE {
+        rest /= BASE;
+        len += 1;
+    }
+    len
+}

@@ -1,0 +1,39 @@
+//! What the text of a module does not show.
+
+/// A part of a module. A number is the id of a section (section 5.5, "Sections").
+#[derive(Clone, Copy, Debug, PartialEq, Eq)]
+pub enum Part {
+    /// A section without entries.
+    Section(u8),
+    /// The number that encodes the size of a section.
+    SectionSize(u8),
+    /// The number that encodes how many entries a section has. In the code section, it is one part with the size of the
+    /// first body.
+    Count(u8),
+    /// The contents of a section: of the function section, the start section or the data count section.
+    Contents(u8),
+    /// An entry of a section.
+    Entry(u8),
+    /// The length and the bytes of the name of a custom section.
+    CustomName,
+    /// The number that encodes the size of a body.
+    BodySize,
+    /// The number that encodes how many groups of locals a body has.
+    LocalCount,
+    /// A group of locals.
+    LocalGroup,
+    /// An instruction.
+    Instruction,
+}
+
+/// A part of a module with more bytes than its shortest encoding, or a section without entries.
+#[derive(Clone, Copy, Debug, PartialEq, Eq)]
+pub struct Finding {
+    /// The byte offset of the part from the start of the module.
+    pub place: u64,
+    /// The part.
+    pub part: Part,
+    /// The number of bytes that the shortest encoding of the part does not have; of a section without entries, all its
+    /// bytes.
+    pub extra: u64,
+}
