@@ -1,2 +1,4 @@
 -- Lemmas that the proofs of this crate share.
 mod Digits
+mod Lists
+mod SubTypes

@@ -3,3 +3,5 @@
 
 mod excess;
 pub mod finding;
+mod list_lengths;
+mod type_lengths;
