@@ -4,4 +4,5 @@
 mod excess;
 pub mod finding;
 mod list_lengths;
+mod operator_lengths;
 mod type_lengths;

@@ -5,7 +5,7 @@ ghost use Rattle.wasmprinter_spec.specs.Types.{CompositeType as CompositeTypeVal
 ghost use Rattle.wasmprinter_ops.specs.ValTypes.{val_types_view};
 ghost use Rattle.wasmprinter_ops.specs.Types.{fields_view};
 
-use crate::excess::{Excess, Shortest, signed_len};
+use crate::excess::{Excess, Shortest};
 use crate::list_lengths::take_list;
 use wasmprinter_decoder::{ExternType, GlobalType, Limits, MemoryType, TableType, TypeGroup};
 use wasmprinter_ops::composite_types::{
@@ -21,7 +21,7 @@ impl Shortest for HeapType {
 
     fn take_from(&self, excess: &mut Excess) {
         match *self {
-            HeapType::Index(index) => excess.take(signed_len(i64::from(index))),
+            HeapType::Index(index) => i64::from(index).take_from(excess),
             _ => excess.take(1),
         }
     }
