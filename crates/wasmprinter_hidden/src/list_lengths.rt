@@ -16,6 +16,16 @@ pub(crate) fn take_list<T: Decode + Shortest>(items: &Items<'_, T>, excess: &mut
     }
 }
 
+/// Takes the bytes of a count and the items of a list in memory away.
+pub(crate) fn take_slice<T: Shortest>(items: &[T], excess: &mut Excess)
+    ensures { excess.new.bytes ≡ excess.old.bytes - list_len T.len items.now }
+{
+    excess.take(unsigned_len(items.len() as u64));
+    for item in items {
+        item.take_from(excess);
+    }
+}
+
 /// Takes the bytes of a length and of that many bytes away.
 pub(crate) fn take_bytes(bytes: &[u8], excess: &mut Excess)
     ensures { excess.new.bytes ≡ excess.old.bytes - bytes_len bytes.now }
