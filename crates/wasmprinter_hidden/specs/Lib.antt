@@ -1,4 +1,7 @@
 -- The definitions that the contracts of this crate cite.
 pub mod Lengths
 pub mod Shortest
+pub mod Findings
+pub mod HiddenNames
+pub mod HiddenHints
 pub mod Hidden

@@ -24,6 +24,24 @@ pub enum Part {
     LocalGroup,
     /// An instruction.
     Instruction,
+    /// A subsection of a name section whose id is unknown: this id.
+    NameSubsection(u8),
+    /// The number that encodes the size of a subsection of a name section with this id.
+    NameSubsectionSize(u8),
+    /// The number that encodes how many names follow, or how many functions or types with names.
+    NameCount,
+    /// The index of a function or type, before names of its locals, labels or fields.
+    NameOwner,
+    /// A name with its index.
+    Name,
+    /// A name of something that the module does not have, with its index.
+    NameOfNothing,
+    /// Bytes of a name section that are not read.
+    UnreadNames,
+    /// A branch hint that no instruction has.
+    Hint,
+    /// The data of a section with branch hints that gives no hints.
+    HintSection,
 }
 
 /// A part of a module with more bytes than its shortest encoding, or a section without entries.
