@@ -2,3 +2,4 @@
 pub mod Lengths
 pub mod Shortest
 pub mod Hidden
+pub mod OpenParts
