@@ -1,1 +1,3 @@
+-- Lemmas that the proofs of this crate share.
+mod Digits
 pub mod OpenParts
