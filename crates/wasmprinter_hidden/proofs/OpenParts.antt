@@ -22,28 +22,38 @@ if_longer-capped part place end len lt =
       | inr within ↦ let same : capped len ≡ len = omega arith in ap (if_longer part place end) same
     ]
 
--- The items xs are left. At any end, once it is known where the open part ends, the findings are those of the whole.
-abbrev pub HasLeft : Part → (ℕ → List Finding) → List Finding → OpenPart → List (Placed ℕ) → Type 0
-HasLeft part whole found last xs = (end : ℕ) → first_place xs end < 2 ^ 64 → found ++ in_run last part xs end ≡ whole end
+-- The items xs are left of these items, which follow the part `first`. At any end, once it is known where the open part
+-- ends, the findings are those of the whole.
+abbrev pub HasLeft : Part → List Finding → OpenPart → List (Placed ℕ) → List Finding → OpenPart → List (Placed ℕ) → Type 0
+HasLeft part old first all found last xs =
+    (end : ℕ) → first_place xs end < 2 ^ 64
+    → (first_place all end < 2 ^ 64) × (found ++ in_run last part xs end ≡ old ++ in_run first part all end)
 
--- One item more is read.
-pub left_more : (part : Part) (whole : ℕ → List Finding) (found more : List Finding) (last next : OpenPart) (place len : ℕ) (xs : List (Placed ℕ)) →
-    place < 2 ^ 64 → more ≡ found ++ in_open last place → next ≡ open_part part place len →
-    HasLeft part whole found last (record { place = place; value = len } ∷ xs) → HasLeft part whole more next xs
-left_more part whole found more last next place len xs lt is_more is_next left end le =
-    let closed : in_open next (first_place xs end) ≡ if_longer part place (first_place xs end) len =
-    ap (λ (o : OpenPart). in_open o (first_place xs end)) is_next ∙ if_longer-capped part place (first_place xs end) len le in
-    let rest = in_items part (λ n. n) xs end in
-    ap (λ (f : List Finding). f ++ in_run next part xs end) is_more
-    ∙ append_assoc found (in_open last place) (in_run next part xs end)
-    ∙ ap (λ (f : List Finding). found ++ (in_open last place ++ (f ++ rest))) closed
-    ∙ left end lt
+module _ (part : Part) (old : List Finding) (first : OpenPart) (all : List (Placed ℕ)) where
+  -- No item was read.
+  pub left_all : HasLeft part old first all old first all
+  left_all end lt = (lt, refl)
 
--- No item is left.
-pub left_none : (part : Part) (whole : ℕ → List Finding) (found : List Finding) (last : OpenPart) → HasLeft part whole found last [] →
-    (end : ℕ) → end < 2 ^ 64 → found ++ in_open last end ≡ whole end
-left_none part whole found last left end lt =
-    ap (λ (f : List Finding). found ++ f) (sym (append-nil (in_open last end))) ∙ left end lt
+  -- One item more is read.
+  pub left_more : (found more : List Finding) (last next : OpenPart) (place len : ℕ) (xs : List (Placed ℕ)) → place < 2 ^ 64 →
+      more ≡ found ++ in_open last place → next ≡ open_part part place len →
+      HasLeft part old first all found last (record { place = place; value = len } ∷ xs) → HasLeft part old first all more next xs
+  left_more found more last next place len xs lt is_more is_next left end le =
+      let closed : in_open next (first_place xs end) ≡ if_longer part place (first_place xs end) len =
+      ap (λ (o : OpenPart). in_open o (first_place xs end)) is_next ∙ if_longer-capped part place (first_place xs end) len le in
+      let rest = in_items part (λ n. n) xs end in
+      let before = left end lt in
+      (before.0,
+      ap (λ (f : List Finding). f ++ in_run next part xs end) is_more
+      ∙ append_assoc found (in_open last place) (in_run next part xs end)
+      ∙ ap (λ (f : List Finding). found ++ (in_open last place ++ (f ++ rest))) closed
+      ∙ before.1)
+
+  -- No item is left.
+  pub left_none : (found : List Finding) (last : OpenPart) → HasLeft part old first all found last [] → HasRead part old first all found last
+  left_none found last left end lt =
+      let all_read = left end lt in
+      (all_read.0, ap (λ (f : List Finding). found ++ f) (sym (append-nil (in_open last end))) ∙ all_read.1)
 
 module _ {A : Type 0} (place len : A → ℕ) where
   -- The first of the items that are left.
@@ -55,3 +65,17 @@ module _ {A : Type 0} (place len : A → ℕ) where
 
   pub lengths-all : (xs : List A) (i : ℕ) → length xs ≤ i → lengths place len (drop i xs) ≡ []
   lengths-all xs i le = ap (lengths place len) (drop_all i xs le)
+
+module _ {A : Type 0} (len : A → ℕ) where
+  -- Items with their places are the same as the places and lengths of the items.
+  pub first_place-lengths : (xs : List (Placed A)) (end : ℕ) → first_place (lengths (λ x. x.place) (λ x. len x.value) xs) end ≡ first_place xs end
+  first_place-lengths [] end = refl
+  first_place-lengths (x ∷ xs) end = refl
+
+  pub in_items-lengths : (part : Part) (xs : List (Placed A)) (end : ℕ) →
+      in_items part (λ n. n) (lengths (λ x. x.place) (λ x. len x.value) xs) end ≡ in_items part len xs end
+  in_items-lengths part [] end = refl
+  in_items-lengths part (x ∷ xs) end =
+      ap (λ (p : ℕ). if_longer part x.place p (len x.value) ++ in_items part (λ n. n) (lengths (λ y. y.place) (λ y. len y.value) xs) end)
+      (first_place-lengths xs end)
+      ∙ ap (λ (f : List Finding). if_longer part x.place (first_place xs end) (len x.value) ++ f) (in_items-lengths part xs end)

@@ -3,3 +3,4 @@ pub mod Lengths
 pub mod Shortest
 pub mod Hidden
 pub mod OpenParts
+pub mod Extents

@@ -27,6 +27,8 @@ abbrev pub in_run : OpenPart → Part → List (Placed ℕ) → ℕ → List Fin
 in_run first part xs end = in_open first (first_place xs end) ++ in_items part (λ n. n) xs end
 
 -- The items that follow the part `first` were read, and the part `last` is still open. At any end that it may have, the
--- findings are those that there were before, those in the first part and those in the items.
+-- findings are those that there were before, those in the first part and those in the items. The place where the first part
+-- ends is a number of 64 bits.
 abbrev pub HasRead : Part → List Finding → OpenPart → List (Placed ℕ) → List Finding → OpenPart → Type 0
-HasRead part old first xs found last = (end : ℕ) → end < 2 ^ 64 → found ++ in_open last end ≡ old ++ in_run first part xs end
+HasRead part old first xs found last =
+    (end : ℕ) → end < 2 ^ 64 → (first_place xs end < 2 ^ 64) × (found ++ in_open last end ≡ old ++ in_run first part xs end)

@@ -4,3 +4,4 @@
 mod excess;
 pub mod finding;
 mod findings;
+mod section_extents;
