@@ -1,3 +1,4 @@
 -- Lemmas that the proofs of this crate share.
 mod Digits
 pub mod OpenParts
+pub mod BodyParts

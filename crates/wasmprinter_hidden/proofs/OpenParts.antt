@@ -35,14 +35,14 @@ module _ (part : Part) (old : List Finding) (first : OpenPart) (all : List (Plac
   left_all end lt = (lt, refl)
 
   -- One item more is read.
-  pub left_more : (found more : List Finding) (last next : OpenPart) (place len : ℕ) (xs : List (Placed ℕ)) → place < 2 ^ 64 →
-      more ≡ found ++ in_open last place → next ≡ open_part part place len →
-      HasLeft part old first all found last (record { place = place; value = len } ∷ xs) → HasLeft part old first all more next xs
-  left_more found more last next place len xs lt is_more is_next left end le =
+  pub left_more : (found more : List Finding) (last next : OpenPart) (place len : ℕ) (ys xs : List (Placed ℕ)) → place < 2 ^ 64 →
+      more ≡ found ++ in_open last place → next ≡ open_part part place len → ys ≡ record { place = place; value = len } ∷ xs →
+      HasLeft part old first all found last ys → HasLeft part old first all more next xs
+  left_more found more last next place len ys xs lt is_more is_next step left end le =
       let closed : in_open next (first_place xs end) ≡ if_longer part place (first_place xs end) len =
       ap (λ (o : OpenPart). in_open o (first_place xs end)) is_next ∙ if_longer-capped part place (first_place xs end) len le in
       let rest = in_items part (λ n. n) xs end in
-      let before = left end lt in
+      let before = rw step at left end lt in
       (before.0,
       ap (λ (f : List Finding). f ++ in_run next part xs end) is_more
       ∙ append_assoc found (in_open last place) (in_run next part xs end)
@@ -50,9 +50,10 @@ module _ (part : Part) (old : List Finding) (first : OpenPart) (all : List (Plac
       ∙ before.1)
 
   -- No item is left.
-  pub left_none : (found : List Finding) (last : OpenPart) → HasLeft part old first all found last [] → HasRead part old first all found last
-  left_none found last left end lt =
-      let all_read = left end lt in
+  pub left_none : (found : List Finding) (last : OpenPart) (ys : List (Placed ℕ)) → ys ≡ [] → HasLeft part old first all found last ys →
+      HasRead part old first all found last
+  left_none found last ys none left end lt =
+      let all_read = rw none at left end lt in
       (all_read.0, ap (λ (f : List Finding). found ++ f) (sym (append-nil (in_open last end))) ∙ all_read.1)
 
 module _ {A : Type 0} (place len : A → ℕ) where

@@ -114,8 +114,9 @@ impl Findings {
     {
         let mut last = first;
         for item in items {
-            self.close(last, item.place())?;
-            last = OpenPart::of_item(part, item.place(), item);
+            let place = item.place();
+            self.close(last, place)?;
+            last = OpenPart::of_item(part, place, item);
         }
         Ok(last)
     }
