@@ -2,3 +2,4 @@
 mod Digits
 pub mod OpenParts
 pub mod BodyParts
+pub mod SectionParts

@@ -12,7 +12,7 @@ use wasmprinter_decoder::{Body, BodyParts, Locals};
 
 /// Appends the findings in the part `first` and in the groups of locals that follow it, except in the last group, or in
 /// `first` if there is none. Returns the part that is left out.
-fn read_locals(
+fn add_locals(
     findings: &mut Findings,
     first: OpenPart,
     locals: &Locals<'_>,
@@ -30,7 +30,7 @@ fn read_locals(
 
 /// Appends the findings in the part `first` and in the operators that follow it, except in the last operator, or in
 /// `first` if there is none. Returns the part that is left out.
-fn read_operators(
+fn add_operators(
     findings: &mut Findings,
     first: OpenPart,
     body: &Body<'_>,
@@ -47,12 +47,12 @@ fn read_operators(
 }
 
 /// Appends the findings in a body.
-fn read_body(findings: &mut Findings, body: &Body<'_>) -> Result<(), AllocError>
+fn add_body(findings: &mut Findings, body: &Body<'_>) -> Result<(), AllocError>
     ensures { OnOk result (findings.new ≡ findings.old ++ in_body body.now) }
 {
     let locals = body.locals();
     let count = OpenPart::of_item(Part::LocalCount, body.place(), &locals.len());
-    let last_local = read_locals(findings, count, &locals)?;
-    let last_operator = read_operators(findings, last_local, body)?;
+    let last_local = add_locals(findings, count, &locals)?;
+    let last_operator = add_operators(findings, last_local, body)?;
     findings.close(last_operator, body.end())
 }

@@ -104,7 +104,7 @@ impl Findings {
 
     /// Appends the findings in the part `first` and in the items that follow it, except in the last item, or in `first`
     /// if there is no item. Returns the part that is left out.
-    pub(crate) fn read_items<T: Entry>(
+    pub(crate) fn add_items<T: Entry>(
         &mut self,
         first: OpenPart,
         part: Part,

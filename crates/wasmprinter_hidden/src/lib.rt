@@ -2,8 +2,10 @@
 #![tactic(auto)]
 
 mod body_findings;
+mod entry_places;
 mod excess;
 pub mod finding;
 mod findings;
-mod lengths_stub;
 mod section_extents;
+mod section_findings;
+mod section_ids;

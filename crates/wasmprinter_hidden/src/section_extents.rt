@@ -20,6 +20,7 @@ pub(crate) struct Extent {
 }
 
 impl Model for Extent {
+    ghost use Rattle.std.specs.Prelude.{◌<◌};
     ghost use Rattle.wasmprinter_hidden.specs.Hidden.{Extent as ExtentValue, extent};
 
     ghost Value = { ExtentValue };
@@ -27,6 +28,8 @@ impl Model for Extent {
     ghost view = { λ x. extent x.place x.id x.contents x.end };
 
     ghost inverse = { λ x. record { place = x.place; id = x.id; contents = x.contents; end = x.end } };
+
+    ghost invariant = { λ x. x.place < x.contents };
 }
 
 impl Extent {

@@ -2,7 +2,7 @@
 use Rattle.std.proofs.Common.{drop}
 use Rattle.wasmprinter_hidden.specs.OpenParts.{lengths}
 use Rattle.wasmprinter_hidden.proofs.OpenParts.{HasLeft}
-use Rattle.wasmprinter_hidden.proofs.findings.Findings.read_items.Given as goal
+use Rattle.wasmprinter_hidden.proofs.findings.Findings.add_items.Given as goal
 
 abbrev pub invariant-loop-item : goal.invariant-loop-item
 invariant-loop-item g l =

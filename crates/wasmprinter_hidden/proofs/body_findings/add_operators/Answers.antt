@@ -4,7 +4,7 @@ use Rattle.wasmprinter_hidden.specs.Lengths.{operator_len}
 use Rattle.wasmprinter_hidden.specs.declared.finding.Part.TheVariants.{Instruction}
 use Rattle.wasmprinter_hidden.proofs.BodyParts.{operators, of_pairs, operators-pairs}
 use Rattle.wasmprinter_hidden.proofs.OpenParts.{left_more, left_none}
-use Rattle.wasmprinter_hidden.proofs.body_findings.read_operators.Goals as goal
+use Rattle.wasmprinter_hidden.proofs.body_findings.add_operators.Goals as goal
 
 pub loop-place-preserved : goal.loop-place-preserved
 loop-place-preserved c =

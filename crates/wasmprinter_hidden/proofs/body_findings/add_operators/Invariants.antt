@@ -3,7 +3,7 @@ use Rattle.wasmprinter_hidden.specs.Lengths.{operator_len}
 use Rattle.wasmprinter_hidden.specs.OpenParts.{lengths}
 use Rattle.wasmprinter_hidden.specs.declared.finding.Part.TheVariants.{Instruction}
 use Rattle.wasmprinter_hidden.proofs.OpenParts.{HasLeft}
-use Rattle.wasmprinter_hidden.proofs.body_findings.read_operators.Given as goal
+use Rattle.wasmprinter_hidden.proofs.body_findings.add_operators.Given as goal
 
 abbrev pub invariant-loop-place : goal.invariant-loop-place
 invariant-loop-place l =

@@ -3,7 +3,7 @@ use Rattle.wasmprinter_hidden.specs.Lengths.{local_entry_len}
 use Rattle.wasmprinter_hidden.specs.OpenParts.{lengths}
 use Rattle.wasmprinter_hidden.specs.declared.finding.Part.TheVariants.{LocalGroup}
 use Rattle.wasmprinter_hidden.proofs.OpenParts.{HasLeft}
-use Rattle.wasmprinter_hidden.proofs.body_findings.read_locals.Given as goal
+use Rattle.wasmprinter_hidden.proofs.body_findings.add_locals.Given as goal
 
 abbrev pub invariant-loop-entry : goal.invariant-loop-entry
 invariant-loop-entry l =

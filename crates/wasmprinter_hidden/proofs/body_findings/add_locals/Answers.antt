@@ -3,7 +3,7 @@ use Rattle.wasmprinter_hidden.specs.Lengths.{local_entry_len}
 use Rattle.wasmprinter_hidden.specs.declared.finding.Part.TheVariants.{LocalGroup}
 use Rattle.wasmprinter_hidden.proofs.BodyParts.{groups}
 use Rattle.wasmprinter_hidden.proofs.OpenParts.{left_more, left_none}
-use Rattle.wasmprinter_hidden.proofs.body_findings.read_locals.Goals as goal
+use Rattle.wasmprinter_hidden.proofs.body_findings.add_locals.Goals as goal
 
 pub loop-entry-preserved : goal.loop-entry-preserved
 loop-entry-preserved c =

@@ -1,5 +1,0 @@
--- A stub.
-use Rattle.wasmprinter_hidden.proofs.lengths_stub.MemoryShortest.take_from.Goals as goal
-
-pub returns : goal.returns
-returns c = ?
