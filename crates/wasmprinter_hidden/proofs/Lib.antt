@@ -1,5 +1,7 @@
 -- Lemmas that the proofs of this crate share.
 mod Digits
-pub mod OpenParts
-pub mod BodyParts
-pub mod SectionParts
+mod Lists
+mod SubTypes
+mod OpenParts
+mod BodyParts
+mod SectionParts

@@ -2,10 +2,14 @@
 #![tactic(auto)]
 
 mod body_findings;
+mod entry_lengths;
 mod entry_places;
 mod excess;
 pub mod finding;
 mod findings;
+mod list_lengths;
+mod operator_lengths;
 mod section_extents;
 mod section_findings;
 mod section_ids;
+mod type_lengths;
