@@ -5,3 +5,4 @@ mod SubTypes
 mod OpenParts
 mod BodyParts
 mod SectionParts
+mod FunctionParts

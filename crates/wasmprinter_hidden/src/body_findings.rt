@@ -47,7 +47,7 @@ fn add_operators(
 }
 
 /// Appends the findings in a body.
-fn add_body(findings: &mut Findings, body: &Body<'_>) -> Result<(), AllocError>
+pub(crate) fn add_body(findings: &mut Findings, body: &Body<'_>) -> Result<(), AllocError>
     ensures { OnOk result (findings.new ≡ findings.old ++ in_body body.now) }
 {
     let locals = body.locals();

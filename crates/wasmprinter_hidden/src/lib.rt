@@ -7,6 +7,7 @@ mod entry_places;
 mod excess;
 pub mod finding;
 mod findings;
+mod function_findings;
 mod list_lengths;
 mod operator_lengths;
 mod section_extents;

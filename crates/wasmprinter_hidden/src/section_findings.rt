@@ -33,7 +33,7 @@ pub(crate) fn add_size(findings: &mut Findings, section: Extent) -> Result<(), A
 }
 
 /// Appends the findings in a section whose contents are one part. `len` is the number of bytes of their shortest encoding.
-fn add_contents(findings: &mut Findings, section: Extent, len: u64) -> Result<(), AllocError>
+pub(crate) fn add_contents(findings: &mut Findings, section: Extent, len: u64) -> Result<(), AllocError>
     ensures { OnOk result (findings.new ≡ findings.old ++ in_contents section len) }
 {
     add_size(findings, section)?;
