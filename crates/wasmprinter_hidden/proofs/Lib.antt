@@ -2,3 +2,7 @@
 mod Digits
 mod Lists
 mod SubTypes
+mod OpenParts
+mod BodyParts
+mod SectionParts
+mod FunctionParts
