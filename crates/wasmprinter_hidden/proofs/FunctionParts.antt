@@ -6,7 +6,8 @@ use Rattle.std.proofs.lemmas.List.{drop_more, drop_all, length-map}
 use Rattle.std.proofs.lemmas.Option.{slice_get_within, get_or_from_slice_get}
 use Rattle.wasmprinter_spec.specs.Placed.{PlacedFunction}
 use Rattle.wasmprinter_hidden.specs.Lengths.{digits, unsigned_len, items_len, list_len}
-use Rattle.wasmprinter_hidden.specs.Hidden.{if_longer, body_end, body_size, in_body, in_bodies}
+use Rattle.wasmprinter_hidden.specs.Findings.{if_longer}
+use Rattle.wasmprinter_hidden.specs.Hidden.{body_end, body_size, in_body, in_bodies}
 use Rattle.wasmprinter_hidden.specs.declared.finding.Part.TheVariants.{BodySize}
 use Rattle.wasmprinter_hidden.specs.declared.finding.Finding.{Finding}
 use Rattle.wasmprinter_hidden.specs.declared.findings.OpenPart.{OpenPart}

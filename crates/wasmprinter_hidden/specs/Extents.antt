@@ -1,7 +1,8 @@
 -- Reading the extents of sections.
 use Rattle.std.specs.Prelude.{Option, Some}
 use Rattle.wasmprinter_spec.specs.Grammar.{Input, ◌>>=◌}
-use Rattle.wasmprinter_hidden.specs.Hidden.{any_section, Extent, extent}
+use Rattle.wasmprinter_hidden.specs.Findings.{any_section}
+use Rattle.wasmprinter_hidden.specs.Hidden.{Extent, extent}
 
 -- Reads a section of any kind: its extent, and the input after it.
 abbrev pub extent_at : Input → Option (Extent × Input)
