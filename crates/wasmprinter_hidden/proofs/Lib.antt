@@ -6,3 +6,5 @@ mod OpenParts
 mod BodyParts
 mod SectionParts
 mod FunctionParts
+mod NameCounting
+mod FunctionCounting

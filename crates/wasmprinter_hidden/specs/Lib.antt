@@ -7,3 +7,4 @@ pub mod HiddenHints
 pub mod Hidden
 pub mod OpenParts
 pub mod Extents
+pub mod NameCounts

@@ -9,6 +9,8 @@ pub mod finding;
 mod findings;
 mod function_findings;
 mod list_lengths;
+mod name_counts;
+mod name_subsections;
 mod operator_lengths;
 mod section_extents;
 mod section_findings;
