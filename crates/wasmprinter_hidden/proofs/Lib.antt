@@ -8,3 +8,4 @@ mod SectionParts
 mod FunctionParts
 mod NameCounting
 mod FunctionCounting
+mod NameReading

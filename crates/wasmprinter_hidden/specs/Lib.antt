@@ -8,3 +8,4 @@ pub mod Hidden
 pub mod OpenParts
 pub mod Extents
 pub mod NameCounts
+pub mod NameReadings

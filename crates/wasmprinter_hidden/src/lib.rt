@@ -10,6 +10,8 @@ mod findings;
 mod function_findings;
 mod list_lengths;
 mod name_counts;
+mod name_entries;
+mod name_findings;
 mod name_subsections;
 mod operator_lengths;
 mod section_extents;
