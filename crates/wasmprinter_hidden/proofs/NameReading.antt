@@ -1,14 +1,13 @@
 -- Reading the data of a name section, item by item.
-use Rattle.std.proofs.Common.{◌≡◌, ℕ, zero, suc, ◌+◌, ◌-◌, ◌<◌, ◌≤◌, Bool, true, false, cond, eqb, length, List, [], ◌∷◌, ◌++◌, Option, Some, None, refl, sym, ap, subst, ◌∙◌, arith, append_assoc, append-nil}
+use Rattle.std.proofs.Common.{◌≡◌, ℕ, zero, suc, ◌+◌, ◌-◌, ◌<◌, ◌≤◌, Bool, true, false, cond, length, List, [], ◌∷◌, ◌++◌, Option, Some, None, refl, sym, ap, subst, ◌∙◌, arith, append_assoc, append-nil}
 use Rattle.std.proofs.lemmas.Bool.{eq-eqb, ne_eqb}
 use Rattle.std.proofs.lemmas.List.{nil_from_length}
-use Rattle.wasmprinter_spec.specs.Grammar.{Input, input, Placed}
+use Rattle.wasmprinter_spec.specs.Grammar.{Input}
 use Rattle.wasmprinter_spec.specs.Repeated.{some_or}
-use Rattle.wasmprinter_spec.specs.Name.{u32}
 use Rattle.wasmprinter_spec.specs.Placed.{PlacedModule}
 use Rattle.wasmprinter_hidden.specs.Lengths.{unsigned_len}
 use Rattle.wasmprinter_hidden.specs.Findings.{finding, if_longer}
-use Rattle.wasmprinter_hidden.specs.HiddenNames.{Reading, reading, and_then, read_value, read_number, repeat, subsection, next_subsection, after_stop, in_names}
+use Rattle.wasmprinter_hidden.specs.HiddenNames.{Reading, reading, and_then, read_value, read_number, repeat, subsection, next_subsection, in_names}
 use Rattle.wasmprinter_hidden.specs.NameReadings.{IsRead, IsNumberRead}
 use Rattle.wasmprinter_hidden.specs.declared.finding.Part.{Part}
 use Rattle.wasmprinter_hidden.specs.declared.finding.Part.TheVariants.{UnreadNames}
@@ -17,11 +16,11 @@ use Rattle.wasmprinter_hidden.specs.declared.finding.Finding.{Finding}
 -- ---- One reading after another
 
 module _ (r : Reading) (next : Input → Reading) where
-  pub then_stopped : r.stopped ≡ true → and_then r next ≡ r
+  then_stopped : r.stopped ≡ true → and_then r next ≡ r
   then_stopped e =
       ap (λ (b : Bool). cond b r (reading (r.found ++ (next r.left).found) (next r.left).left (next r.left).stopped)) e
 
-  pub then_goes_on : r.stopped ≡ false → and_then r next ≡ reading (r.found ++ (next r.left).found) (next r.left).left (next r.left).stopped
+  then_goes_on : r.stopped ≡ false → and_then r next ≡ reading (r.found ++ (next r.left).found) (next r.left).left (next r.left).stopped
   then_goes_on e =
       ap (λ (b : Bool). cond b r (reading (r.found ++ (next r.left).found) (next r.left).left (next r.left).stopped)) e
 
@@ -76,7 +75,7 @@ pub record Completes (rest : Reading) (now : List Finding) (whole : Reading) (ol
 
 module _ (read : Input → Reading) (whole : Reading) (old : List Finding) where
   -- One more item was read.
-  pub times_more : (k : ℕ) (at after : Input) (now found : List Finding) → Completes (repeat (suc k) read at) now whole old →
+  times_more : (k : ℕ) (at after : Input) (now found : List Finding) → Completes (repeat (suc k) read at) now whole old →
       IsRead (read at) now after found false → Completes (repeat k read after) found whole old
   times_more k at after now found c r =
       let rest : Reading = repeat k read (read at).left in
@@ -90,7 +89,7 @@ module _ (read : Input → Reading) (whole : Reading) (old : List Finding) where
       })
 
   -- Reading stopped at an item.
-  pub times_stopped : (k : ℕ) (at after : Input) (now found : List Finding) → Completes (repeat (suc k) read at) now whole old →
+  times_stopped : (k : ℕ) (at after : Input) (now found : List Finding) → Completes (repeat (suc k) read at) now whole old →
       IsRead (read at) now after found true → IsRead whole old after found true
   times_stopped k at after now found c r =
       let stop = then_stopped (read at) (repeat k read) (sym r.stops) in
@@ -98,7 +97,7 @@ module _ (read : Input → Reading) (whole : Reading) (old : List Finding) where
       record { found = r.found ∙ h.found; left = r.left ∙ h.left; stops = r.stops ∙ h.stops }
 
   -- All items were read.
-  pub times_done : (at : Input) (now : List Finding) → Completes (reading [] at false) now whole old → IsRead whole old at now false
+  times_done : (at : Input) (now : List Finding) → Completes (reading [] at false) now whole old → IsRead whole old at now false
   times_done at now c = record { found = sym (append-nil now) ∙ c.found; left = c.left; stops = c.stops }
 
 module _ (read : Input → Reading) (start : Input) (old : List Finding) (n : ℕ) where

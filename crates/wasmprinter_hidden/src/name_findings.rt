@@ -129,10 +129,7 @@ fn read_indirect_map(
 }
 
 /// Reads the name of the module, and appends the finding in it.
-fn read_module_name(
-    findings: &mut Findings,
-    cursor: &mut Cursor<'_>,
-) -> Result<bool, AllocError>
+fn read_module_name(findings: &mut Findings, cursor: &mut Cursor<'_>) -> Result<bool, AllocError>
     ensures { IfOk result (IsRead (module_name cursor.old) findings.old cursor.new findings.new) }
 {
     let place = cursor.place();
@@ -238,8 +235,8 @@ fn read_subsection(
 
 /// Appends the findings in the data of a name section of the counted module.
 ///
-/// The time is linear in the number of bytes (which is not part of the contract): each item that is read takes a byte or
-/// more, and reading stops at the first that the bytes do not encode, whatever the count before it says.
+/// The time is linear in the number of bytes: each item that is read takes at least one byte, and reading stops at the first
+/// item that the bytes do not encode, whatever the count before the items is. (The contract does not say so.)
 pub(crate) fn add_names(
     findings: &mut Findings,
     counts: &NameCounts<'_, '_>,
