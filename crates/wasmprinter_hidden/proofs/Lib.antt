@@ -1,2 +1,3 @@
 -- Laws behind the contracts of this crate.
 mod Numbers
+mod Combinators
