@@ -410,3 +410,27 @@ pub choose_second : {A : Type 0} (c : Bool) (g h : Grammar A) (p : ℕ) (t : Lis
     (choose c g h).spells p t a
 choose_second false g h p t a e s = s
 choose_second true g h p t a e s = absurd cc
+
+-- ---- After a given byte
+
+-- The bytes are c, and then bytes that encode the value.
+abbrev pub Led : {A : Type 0} → ℕ → Spelling A → Spelling A
+Led c S p text a = (u : List ℕ) × (text ≡ c ∷ u) × S (p + 1) u a
+
+-- The length with that byte.
+abbrev pub led_len : {A : Type 0} → (A → ℕ) → A → ℕ
+led_len l a = 1 + l a
+
+pub led_measured : {A B : Type 0} {v : A → B} {S : Spelling A} {l : A → ℕ} (c : ℕ) → Measured v S l → Measured v (Led c S) (led_len l)
+led_measured {l = l} c m = record {
+  at_least = λ p bytes a are s.
+      let (u, joined, others) = s in
+      let all : AreBytes (c ∷ u) = subst AreBytes joined are in
+      let least : l a ≤ length u = m.at_least (p + 1) u a all.1 others in
+      omega (arith, least, ap length joined);
+  one_has = λ p q bytes a are s.
+      let (u, joined, others) = s in
+      let all : AreBytes (c ∷ u) = subst AreBytes joined are in
+      let (short, b, are_short, shortly, alike, size) = m.one_has (p + 1) (q + 1) u a all.1 others in
+      (c ∷ short, b, (all.0, are_short), (short, refl, shortly), alike, omega (arith, size));
+}

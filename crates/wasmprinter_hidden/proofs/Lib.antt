@@ -1,3 +1,5 @@
 -- Laws behind the contracts of this crate.
 mod Numbers
 mod Combinators
+mod Names
+mod ValTypes
