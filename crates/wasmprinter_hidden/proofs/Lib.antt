@@ -3,3 +3,4 @@ mod Numbers
 mod Combinators
 mod Names
 mod ValTypes
+mod Types
