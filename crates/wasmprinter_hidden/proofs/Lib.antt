@@ -4,3 +4,4 @@ mod Combinators
 mod Names
 mod ValTypes
 mod Types
+mod ExternTypes
