@@ -434,3 +434,43 @@ led_measured {l = l} c m = record {
       let (short, b, are_short, shortly, alike, size) = m.one_has (p + 1) (q + 1) u a all.1 others in
       (c ∷ short, b, (all.0, are_short), (short, refl, shortly), alike, omega (arith, size));
 }
+
+-- ---- A value, and then another whose encoding depends on the first
+
+abbrev pub ThenBy : {A B : Type 0} → Spelling A → (A → Spelling B) → Spelling (A × B)
+ThenBy S T p text x = (t u : List ℕ) × (text ≡ t ++ u) × S p t x.0 × T x.0 (p + length t) u x.1
+
+-- The sum of the lengths of the two values. That of the second may depend on the first.
+abbrev pub sum_len_by : {A B : Type 0} → (A → ℕ) → (A → B → ℕ) → A × B → ℕ
+sum_len_by k l x = k x.0 + l x.0 x.1
+
+pub then_by_measured : {A B : Type 0} {S : Spelling A} {k : A → ℕ} (T : A → Spelling B) (l : A → B → ℕ) →
+    Measured same S k → ((a : A) → Measured same (T a) (l a)) → Measured same (ThenBy S T) (sum_len_by k l)
+then_by_measured {A = A} {B = B} {S = S} {k = k} T l m n = record {
+  at_least = λ p bytes x are s.
+      let (t, u, joined, first, second) = s in
+      let parts = split_bytes bytes t u joined are in
+      let some : k x.0 ≤ length t = m.at_least p t x.0 parts.0 first in
+      let others : l x.0 x.1 ≤ length u = (n x.0).at_least (p + length t) u x.1 parts.1 second in
+      omega (arith, some, others, joined_length bytes t u joined);
+  one_has = λ p q bytes x are s.
+      let (t, u, joined, first, second) = s in
+      let parts = split_bytes bytes t u joined are in
+      let (short, a, are_short, shortly, is, size) = m.one_has p q t x.0 parts.0 first in
+      let (others, b, are_others, otherwise, is_other, other_size) =
+      (n x.0).one_has (p + length t) (q + length short) u x.1 parts.1 second in (
+        short ++ others,
+        (x.0, b),
+        are_joined short others are_short are_others,
+        (short, others, refl, subst (λ (c : A). S q short c) is shortly, otherwise),
+        ap (λ (c : B). (x.0, c)) is_other,
+        omega (arith, length-append short others, size, other_size),
+      );
+}
+
+-- n bytes, whose number is known.
+pub fixed_measured : (n : ℕ) → Measured same (take_bytes n).spells (λ bytes. n)
+fixed_measured n = record {
+  at_least = λ p bytes b are s. omega (arith, s.0);
+  one_has = λ p q bytes b are s. (bytes, b, are, s, refl, s.0);
+}

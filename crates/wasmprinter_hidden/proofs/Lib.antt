@@ -5,3 +5,5 @@ mod Names
 mod ValTypes
 mod Types
 mod ExternTypes
+mod Operands
+mod Operators

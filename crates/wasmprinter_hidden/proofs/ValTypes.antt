@@ -1,13 +1,13 @@
 -- The lengths of the shortest encodings of heap types, reference types and value types (section 5.3 of the standard).
-use Rattle.std.specs.Prelude.{◌≡◌, ℕ, ℤ, pos, negsuc, List, [], ◌∷◌, ◌+◌, ◌<◌, ◌≤◌, ◌⊎◌, length, nat_lt, Bool, true, false, ◌&&◌, ◌==◌, is_some, Option, Some, None, refl}
+use Rattle.std.specs.Prelude.{◌≡◌, ℕ, ℤ, pos, negsuc, List, [], ◌∷◌, ◌+◌, ◌<◌, ◌≤◌, ◌⊎◌, length, nat_lt, Bool, true, false, ◌&&◌, ◌||◌, ◌==◌, is_some, Option, Some, None, refl}
 use Rattle.std.proofs.Common.{sym, ap, subst, ◌∙◌, arith, inl, inr, eqb, ltb}
-use Rattle.std.proofs.lemmas.Bool.{and_parts, eqb-true, ltb-true, false_from_ne_true, ne_eqb, eq-eqb}
+use Rattle.std.proofs.lemmas.Bool.{and_parts, eqb-true, ltb-true, false_from_ne_true, ne_eqb, or_left, or_right, or_from}
 use Rattle.wasmprinter_spec.specs.Grammar.{Grammar, byte, try_map, map_value, succeed, fail, choose, some_is, ◌>>=◌, bind_some}
 use Rattle.wasmprinter_spec.specs.Choices.{cond_cases}
 use Rattle.wasmprinter_spec.specs.Leb.{IsSigned}
 use Rattle.wasmprinter_spec.specs.Types.{HeapType, Exn, Array, Struct, I31, Eq, Any, Extern, Func, NoAny, NoExtern, NoFunc, NoExn, Index, RefType, ref_type, ValType, I32, I64, F32, F64, V128, Ref}
 use Rattle.wasmprinter_spec.specs.Binary.{AreBytes}
-use Rattle.wasmprinter_spec.specs.Binary.ValTypes.{lookup, number_type_of, abstract_heap_of, non_negative, signed_index, value_if_any, heap_type_by, heap_type, ref_type_after, reference_type, val_type_after, val_type}
+use Rattle.wasmprinter_spec.specs.Binary.ValTypes.{lookup, number_type_of, abstract_heap_of, non_negative, signed_index, value_if_any, heap_type_by, heap_type, ref_type_after, reference_type, val_type_after, val_type, begins_val_type}
 use Rattle.wasmprinter_hidden.specs.Lengths.{signed_len, heap_type_len, ref_type_parts_len, ref_type_len, val_type_len}
 use Rattle.wasmprinter_hidden.proofs.Combinators.{Measured, same, one, Under, Either, HasWithin, Led, map_measured, try_map_measured, byte_measured, either_measured, covered_measured, same_measured, led_measured, after_parts, after_joined, choose_cases, choose_first, choose_second}
 use Rattle.wasmprinter_hidden.proofs.Names.{signed_index_measured}
@@ -288,9 +288,11 @@ number_row_parts b t e =
 pub number_byte : (b : ℕ) (t : ValType) → number_type_of b ≡ Some t → IsNumberByte b t
 number_byte b t e = number_row_parts b t (found number_row number_rows b t refl e)
 
-pub no_number_byte : (b : ℕ) → b < 0x7b → is_some (number_type_of b) ≡ false
-no_number_byte b low =
-    none_found number_row number_rows b refl (λ t e. let is = number_row_parts b t e in omega (arith, low, is.from))
+pub no_number_byte : (b : ℕ) → (b < 0x7b) ⊎ (0x7f < b) → is_some (number_type_of b) ≡ false
+no_number_byte b out =
+    none_found number_row number_rows b refl (λ t e.
+      let is = number_row_parts b t e in
+      elim out [ | inl low ↦ omega (arith, low, is.from) | inr high ↦ omega (arith, high, is.below) ])
 
 -- A value type that is one byte, of no reference type.
 abbrev pub NumberType : ℕ → List ℕ → ValType → Type 0
@@ -330,7 +332,7 @@ reference_val p t v (r, made, spelled) =
     let (from, below) = ref_first b (p + 1) u r others in
     subst (λ (x : List ℕ). val_type.spells p x v) (sym joined)
     (after_joined val_type_after p b u v
-    (choose_second (is_some (number_type_of b)) _ _ (p + 1) u v (no_number_byte b (omega (arith, below))) (r, made, others)))
+    (choose_second (is_some (number_type_of b)) _ _ (p + 1) u v (no_number_byte b (inl (omega (arith, below)))) (r, made, others)))
 
 pub val_measured : Measured same val_type.spells val_type_len
 val_measured =
@@ -345,3 +347,35 @@ val_first b p u v s =
       | inl (is, empty) ↦ let row = number_byte b v is in (omega (arith, row.from), inr row.from)
       | inr (r, made, spelled) ↦ let (from, below) = ref_first b p u r spelled in (from, inl below)
     ]
+
+-- A reference type or a value type begins with its first byte.
+ref_begins : (b p : ℕ) (u : List ℕ) (r : RefType) → (ref_type_after b).spells p u r →
+    ((b == 0x64) || ((b == 0x63) || is_some (abstract_heap_of b))) ≡ true
+ref_begins b p u r s =
+    elim (choose_cases (b == 0x64) _ _ p u r s) [
+      | inl (is, x) ↦ or_left (b == 0x64) _ is
+      | inr (other, x) ↦
+          or_right (b == 0x64) _ (elim (choose_cases (b == 0x63) _ _ p u r x) [
+            | inl (is, y) ↦ or_left (b == 0x63) _ is
+            | inr (none, (h, made, spelled)) ↦
+                or_right (b == 0x63) _ (ap is_some (any_parts (abstract_heap_of b) p u h spelled).0)
+          ])
+    ]
+
+pub val_begins : (b p : ℕ) (u : List ℕ) (v : ValType) → (val_type_after b).spells p u v → begins_val_type b ≡ true
+val_begins b p u v s =
+    elim (val_after_cases b p u v s) [
+      | inl (is, empty) ↦ or_left (is_some (number_type_of b)) _ (ap is_some is)
+      | inr (r, made, spelled) ↦ or_right (is_some (number_type_of b)) _ (ref_begins b p u r spelled)
+    ]
+
+-- No value type begins with the first byte of a type index.
+pub index_begins_none : (b : ℕ) → (b < 64) ⊎ (128 ≤ b) → begins_val_type b ≡ false
+index_begins_none b out =
+    let number : (b < 0x7b) ⊎ (0x7f < b) = elim out [ | inl low ↦ inl (omega (arith, low)) | inr high ↦ inr high ] in
+    let heap : (b < 0x69) ⊎ (0x74 < b) = elim out [ | inl low ↦ inl (omega (arith, low)) | inr high ↦ inr (omega (arith, high)) ] in
+    let no_64 : (b == 0x64) ≡ false =
+    ne_eqb b 0x64 (λ z. elim out [ | inl low ↦ omega (arith, low, z) | inr high ↦ omega (arith, high, z) ]) in
+    let no_63 : (b == 0x63) ≡ false =
+    ne_eqb b 0x63 (λ z. elim out [ | inl low ↦ omega (arith, low, z) | inr high ↦ omega (arith, high, z) ]) in
+    or_from (is_some (number_type_of b)) _ (no_number_byte b number) (or_from (b == 0x64) _ no_64 (or_from (b == 0x63) _ no_63 (no_heap_byte b heap)))
