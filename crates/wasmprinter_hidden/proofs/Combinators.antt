@@ -104,21 +104,27 @@ Under {A = A} f S p text b = (a : A) × (f a ≡ Some b) × S p text a
 
 -- The values under a total function. `len_is` says that the function keeps the length, `keeps` that values with one view
 -- are mapped to values with one view.
-pub map_measured : {A B C D : Type 0} {v : A → C} {w : B → D} {S : Spelling A} {k : A → ℕ} {l : B → ℕ} (f : A → B) →
-    ((a : A) → l (f a) ≡ k a) → ((a b : A) → v a ≡ v b → w (f a) ≡ w (f b)) → Measured v S k →
+pub map_measured_where : {A B C D : Type 0} {v : A → C} {w : B → D} {S : Spelling A} {k : A → ℕ} {l : B → ℕ} (f : A → B) →
+    ((p : ℕ) (t : List ℕ) (a : A) → S p t a → l (f a) ≡ k a) → ((a b : A) → v a ≡ v b → w (f a) ≡ w (f b)) → Measured v S k →
     Measured w (Under (λ a. Some (f a)) S) l
-map_measured {B = B} {D = D} {w = w} {k = k} {l = l} f len_is keeps m = record {
+map_measured_where {B = B} {D = D} {w = w} {k = k} {l = l} f len_is keeps m = record {
   at_least = λ p bytes b are s.
       let (a, is, spelled) = s in
       let some : k a ≤ length bytes = m.at_least p bytes a are spelled in
-      let same_len : l b ≡ k a = ap l (sym (some_is (f a) b is)) ∙ len_is a in
+      let same_len : l b ≡ k a = ap l (sym (some_is (f a) b is)) ∙ len_is p bytes a spelled in
       omega (arith, some, same_len);
   one_has = λ p q bytes b are s.
       let (a, is, spelled) = s in
       let (short, c, are_short, shortly, alike, size) = m.one_has p q bytes a are spelled in
       let image : f a ≡ b = some_is (f a) b is in
-      (short, f c, are_short, (c, refl, shortly), keeps c a alike ∙ ap w image, size ∙ sym (len_is a) ∙ ap l image);
+      (short, f c, are_short, (c, refl, shortly), keeps c a alike ∙ ap w image, size ∙ sym (len_is p bytes a spelled) ∙ ap l image);
 }
+
+-- The same for a function that keeps the length of each value.
+pub map_measured : {A B C D : Type 0} {v : A → C} {w : B → D} {S : Spelling A} {k : A → ℕ} {l : B → ℕ} (f : A → B) →
+    ((a : A) → l (f a) ≡ k a) → ((a b : A) → v a ≡ v b → w (f a) ≡ w (f b)) → Measured v S k →
+    Measured w (Under (λ a. Some (f a)) S) l
+map_measured f len_is keeps m = map_measured_where f (λ p t a s. len_is a) keeps m
 
 -- The values under a partial function.
 pub try_map_measured : {A B : Type 0} {S : Spelling A} {k : A → ℕ} {l : B → ℕ} (f : A → Option B) →
@@ -444,9 +450,9 @@ ThenBy S T p text x = (t u : List ℕ) × (text ≡ t ++ u) × S p t x.0 × T x.
 abbrev pub sum_len_by : {A B : Type 0} → (A → ℕ) → (A → B → ℕ) → A × B → ℕ
 sum_len_by k l x = k x.0 + l x.0 x.1
 
-pub then_by_measured : {A B : Type 0} {S : Spelling A} {k : A → ℕ} (T : A → Spelling B) (l : A → B → ℕ) →
-    Measured same S k → ((a : A) → Measured same (T a) (l a)) → Measured same (ThenBy S T) (sum_len_by k l)
-then_by_measured {A = A} {B = B} {S = S} {k = k} T l m n = record {
+pub then_by_measured : {A B C : Type 0} {w : B → C} {S : Spelling A} {k : A → ℕ} (T : A → Spelling B) (l : A → B → ℕ) →
+    Measured same S k → ((a : A) → Measured w (T a) (l a)) → Measured (both same w) (ThenBy S T) (sum_len_by k l)
+then_by_measured {A = A} {B = B} {C = C} {w = w} {S = S} {k = k} T l m n = record {
   at_least = λ p bytes x are s.
       let (t, u, joined, first, second) = s in
       let parts = split_bytes bytes t u joined are in
@@ -463,7 +469,7 @@ then_by_measured {A = A} {B = B} {S = S} {k = k} T l m n = record {
         (x.0, b),
         are_joined short others are_short are_others,
         (short, others, refl, subst (λ (c : A). S q short c) is shortly, otherwise),
-        ap (λ (c : B). (x.0, c)) is_other,
+        ap (λ (c : C). (x.0, c)) is_other,
         omega (arith, length-append short others, size, other_size),
       );
 }

@@ -7,3 +7,5 @@ mod Types
 mod ExternTypes
 mod Operands
 mod Operators
+mod Expressions
+mod Entries
