@@ -1,2 +1,232 @@
--- x
-use Rattle.std.specs.Prelude.{ℕ}
+-- The lengths of the shortest encodings of tables, globals, element segments and data segments (section 5.5 of the
+-- standard).
+use Rattle.std.specs.Prelude.{◌≡◌, ℕ, List, [], ◌∷◌, ◌++◌, map, ◌+◌, ◌-◌, ◌<◌, ◌≤◌, ◌⊎◌, length, Bool, true, false, ◌==◌, if◌then◌else◌, Option, Some, None, refl}
+use Rattle.std.proofs.Common.{sym, ap, subst, ◌∙◌, arith, inl, inr, eqb}
+use Rattle.std.proofs.lemmas.Bool.{eqb-true, eq-eqb, ne_eqb, cases_lt, cases_eq}
+use Rattle.std.proofs.lemmas.List.{length-append}
+use Rattle.wasmprinter_spec.specs.Grammar.{Grammar, Placed, seq, map_value, succeed, fail, choose, some_is}
+use Rattle.wasmprinter_spec.specs.Choices.{tested}
+use Rattle.wasmprinter_spec.specs.FirstByte.{only}
+use Rattle.wasmprinter_spec.specs.Name.{u32, vec}
+use Rattle.wasmprinter_spec.specs.Types.{RefType, ref_type, Func, TableType, GlobalType}
+use Rattle.wasmprinter_spec.specs.Operator.{Operator}
+use Rattle.wasmprinter_spec.specs.Placed.{Table, table_of, Global, global_of, ElementMode, Passive, Declared, Active, Items, Functions, Expressions, element_of, Element, ElementEntry, entry_of, DataMode, PassiveData, ActiveData, Data, data_of}
+use Rattle.wasmprinter_spec.specs.Module.{without_places, table_without_places, global_without_places, mode_without_places, items_without_places, element_without_places, data_without_places}
+use Rattle.wasmprinter_spec.specs.Instructions.{constant}
+use Rattle.wasmprinter_spec.specs.Binary.{AreBytes}
+use Rattle.wasmprinter_spec.specs.Binary.ValTypes.{ref_type_after, reference_type}
+use Rattle.wasmprinter_spec.specs.Binary.Tables.{table_type, table_by, table}
+use Rattle.wasmprinter_spec.specs.Binary.Globals.{global_type, global}
+use Rattle.wasmprinter_spec.specs.Binary.Elements.{active, active_in, function_items, items_of_kind, expression_items, items_of_type, segment, element_after, element}
+use Rattle.wasmprinter_spec.specs.Binary.DataSegments.{byte_vec, data_mode}
+use Rattle.wasmprinter_spec.specs.Binary.DataSegments.{segment as data_segment}
+use Rattle.wasmprinter_hidden.specs.Lengths.{unsigned_len, list_len, ref_type_len, expression_len, table_len, global_len, element_mode_len, omits_type, element_items_len, element_len, data_len}
+use Rattle.wasmprinter_hidden.proofs.Numbers.{digits_some}
+use Rattle.wasmprinter_hidden.proofs.Combinators.{Measured, same, both, Under, Either, HasWithin, Led, Then, are_joined, split_bytes, joined_length, map_measured, map_measured_where, then_measured, then_by_measured, vec_measured, list_measured, succeed_measured, fail_measured, choose_measured, either_measured, covered_measured, same_measured, led_measured, only_measured, number_after_measured, after_parts, choose_cases, choose_first, choose_second}
+use Rattle.wasmprinter_hidden.proofs.Names.{u32_measured, byte_vec_measured}
+use Rattle.wasmprinter_hidden.proofs.ValTypes.{ref_first, ref_measured}
+use Rattle.wasmprinter_hidden.proofs.ExternTypes.{table_type_measured, global_type_measured}
+use Rattle.wasmprinter_hidden.proofs.Operands.{OtherMemory, other_memory_measured, non_zero_is, non_zero_from, u32_some, u32_byte}
+use Rattle.wasmprinter_hidden.proofs.Expressions.{constant_measured}
+
+-- The operators of expressions.
+abbrev Code : Type 0
+Code = List (Placed Operator)
+
+-- ---- Tables
+
+-- The parts of a table with an initialiser.
+abbrev InitParts : Type 0
+InitParts = ℕ × (ℕ × (TableType × Code))
+
+abbrev table_of_parts : InitParts → Table (Placed Operator)
+table_of_parts x = table_of x.1.1.0 (Some x.1.1.1)
+
+abbrev init_grammar : Grammar InitParts
+init_grammar = seq (only 0x40) (λ _. seq (only 0x00) (λ _. seq table_type (λ _. constant)))
+
+abbrev WithInit : ℕ → List ℕ → Table (Placed Operator) → Type 0
+WithInit p t a = (map_value table_of_parts init_grammar).spells p t a
+
+abbrev table_alone : TableType → Table (Placed Operator)
+table_alone t = table_of t None
+
+abbrev WithoutInit : ℕ → List ℕ → Table (Placed Operator) → Type 0
+WithoutInit p t a = (map_value table_alone table_type).spells p t a
+
+table_cases : (p : ℕ) (t : List ℕ) (a : Table (Placed Operator)) → table.spells p t a → Either WithInit WithoutInit p t a
+table_cases p [] a s = absurd s
+table_cases p (b ∷ bs) a s =
+    elim (choose_cases (b == 0x40) (map_value table_of_parts init_grammar) (map_value table_alone table_type) p (b ∷ bs) a s) [
+      | inl x ↦ inl x.1
+      | inr x ↦ inr x.1
+    ]
+
+with_init : (p : ℕ) (t : List ℕ) (a : Table (Placed Operator)) → WithInit p t a → table.spells p t a
+with_init p [] a (x, made, (t, u, joined, (b, is, byte), others)) = absurd (omega (arith, joined_length [] t u joined, ap length byte))
+with_init p (c ∷ cs) a (x, made, (t, u, joined, (b, is, byte), others)) =
+    let (forty, value) = tested (eqb b 0x40) (Some b) x.0 is in
+    let first : c ∷ cs ≡ b ∷ u = joined ∙ ap (λ (r : List ℕ). r ++ u) byte in
+    let head : c ≡ b = cc in
+    choose_first (c == 0x40) (map_value table_of_parts init_grammar) _ p (c ∷ cs) a
+    (ap (λ (d : ℕ). eqb d 0x40) head ∙ forty) (x, made, (t, u, joined, (b, is, byte), others))
+
+without_init : (p : ℕ) (t : List ℕ) (a : Table (Placed Operator)) → WithoutInit p t a → table.spells p t a
+without_init p text a (type, made, (parts, is, (t, u, joined, reference, limits))) =
+    let (b, v, front, others) = after_parts ref_type_after p t parts.0 reference in
+    let (from, below) = ref_first b (p + 1) v parts.0 others in
+    let whole : text ≡ b ∷ (v ++ u) = joined ∙ ap (λ (r : List ℕ). r ++ u) front in
+    let spelled : (map_value table_alone table_type).spells p text a = (type, made, (parts, is, (t, u, joined, reference, limits))) in
+    subst (λ (r : List ℕ). table.spells p r a) (sym whole)
+    (choose_second (b == 0x40) _ (map_value table_alone table_type) p (b ∷ (v ++ u)) a (ne_eqb b 0x40 (λ z. omega (arith, z, from)))
+    (subst (λ (r : List ℕ). (map_value table_alone table_type).spells p r a) whole spelled))
+
+-- The view of a table with an initialiser, by the views of its parts.
+abbrev table_view : ℕ × (ℕ × (TableType × List Operator)) → Table Operator
+table_view x = table_of x.1.1.0 (Some x.1.1.1)
+
+pub table_measured : Measured table_without_places table.spells table_len
+table_measured =
+    same_measured (λ p t a s. elim s [ | inl x ↦ with_init p t a x | inr x ↦ without_init p t a x ]) table_cases
+    (either_measured
+    (map_measured table_of_parts (λ x. omega arith) (λ x y e. ap table_view e)
+    (then_measured (only_measured 0x40) (then_measured (only_measured 0x00) (then_measured table_type_measured constant_measured))))
+    (map_measured table_alone (λ t. omega arith) (λ s t e. ap (λ (r : TableType). table_without_places (table_alone r)) e) table_type_measured))
+
+-- ---- Globals
+
+abbrev global_of_parts : GlobalType × Code → Global (Placed Operator)
+global_of_parts x = global_of x.0 x.1
+
+abbrev global_view : GlobalType × List Operator → Global Operator
+global_view x = global_of x.0 x.1
+
+pub global_measured : Measured global_without_places global.spells global_len
+global_measured =
+    map_measured global_of_parts (λ x. refl) (λ x y e. ap global_view e) (then_measured global_type_measured constant_measured)
+
+-- ---- Element segments: modes
+
+abbrev active_of : Code → ElementMode (Placed Operator)
+active_of offset = Active 0 offset
+
+active_measured : Measured mode_without_places active.spells (element_mode_len false)
+active_measured = map_measured active_of (λ offset. omega arith) (λ x y e. ap (λ (ops : List Operator). Active 0 ops) e) constant_measured
+
+abbrev active_in_of : ℕ × Code → ElementMode (Placed Operator)
+active_in_of x = Active x.0 x.1
+
+abbrev active_view : ℕ × List Operator → ElementMode Operator
+active_view x = Active x.0 x.1
+
+active_in_measured : Measured mode_without_places active_in.spells (element_mode_len true)
+active_in_measured = map_measured active_in_of (λ x. refl) (λ x y e. ap active_view e) (then_measured u32_measured constant_measured)
+
+passive_measured : Measured mode_without_places (succeed {A = ElementMode (Placed Operator)} Passive).spells (element_mode_len false)
+passive_measured = succeed_measured Passive refl
+
+declared_measured : Measured mode_without_places (succeed {A = ElementMode (Placed Operator)} Declared).spells (element_mode_len false)
+declared_measured = succeed_measured Declared refl
+
+-- Whether the type of the items is omitted.
+active_omits : (p : ℕ) (t : List ℕ) (m : ElementMode (Placed Operator)) → active.spells p t m → omits_type false m ≡ true
+active_omits p t m (offset, made, spelled) = ap (omits_type false) (sym (some_is (active_of offset) m made))
+
+passive_keeps : (p : ℕ) (t : List ℕ) (m : ElementMode (Placed Operator)) → (succeed {A = ElementMode (Placed Operator)} Passive).spells p t m →
+    omits_type false m ≡ false
+passive_keeps p t m s = ap (omits_type false) s.1
+
+declared_keeps : (p : ℕ) (t : List ℕ) (m : ElementMode (Placed Operator)) → (succeed {A = ElementMode (Placed Operator)} Declared).spells p t m →
+    omits_type false m ≡ false
+declared_keeps p t m s = ap (omits_type false) s.1
+
+-- ---- Element segments: items
+
+-- A list of items has at least a count.
+items_some : (i : Items (Placed Operator)) → 1 ≤ element_items_len false i
+items_some (Functions indices) = omega arith
+items_some (Expressions t es) = omega (arith, digits_some 9 (length es))
+
+functions_omitted : Measured items_without_places function_items.spells (element_items_len true)
+functions_omitted = map_measured Functions (λ ns. omega arith) (λ x y e. ap Functions e) (list_measured u32 u32_measured)
+
+-- The same items, after a byte.
+functions_kept : Measured items_without_places function_items.spells (λ i. element_items_len false i - 1)
+functions_kept = map_measured Functions (λ ns. omega arith) (λ x y e. ap Functions e) (list_measured u32 u32_measured)
+
+of_kind_measured : Measured items_without_places items_of_kind.spells (element_items_len false)
+of_kind_measured =
+    map_measured (λ (x : ℕ × Items (Placed Operator)). x.1) (λ x. omega (arith, items_some x.1)) (λ x y e. ap (λ (z : ℕ × Items Operator). z.1) e)
+    (then_measured (only_measured 0x00) functions_kept)
+
+expressions_omitted : (t : RefType) → Measured items_without_places (expression_items t).spells (element_items_len true)
+expressions_omitted t =
+    map_measured (Expressions t) (λ es. omega arith) (λ x y e. ap (λ (es : List (List Operator)). Expressions t es) e)
+    (vec_measured constant constant_measured)
+
+-- With their type, the items have its length more.
+type_kept : (t : RefType) (p : ℕ) (u : List ℕ) (i : Items (Placed Operator)) → (expression_items t).spells p u i →
+    element_items_len false i ≡ ref_type_len t + element_items_len true i
+type_kept t p u i (es, made, spelled) =
+    let is : Expressions t es ≡ i = some_is (Expressions t es) i made in
+    let size : element_items_len false (Expressions t es) ≡ ref_type_len t + element_items_len true (Expressions t es) = omega arith in
+    subst (λ (x : Items (Placed Operator)). element_items_len false x ≡ ref_type_len t + element_items_len true x) is size
+
+of_type_measured : Measured items_without_places items_of_type.spells (element_items_len false)
+of_type_measured =
+    map_measured_where (λ (x : RefType × Items (Placed Operator)). x.1)
+    (λ p text x (t, u, joined, type, spelled). type_kept x.0 (p + length t) u x.1 spelled)
+    (λ x y e. ap (λ (z : RefType × Items Operator). z.1) e)
+    (then_by_measured (λ t. (expression_items t).spells) (λ t. element_items_len true) ref_measured expressions_omitted)
+
+-- ---- Element segments
+
+abbrev Entry : Type 0
+Entry = ElementMode (Placed Operator) × Items (Placed Operator)
+
+abbrev entry_of_parts : Bool → Entry → ElementEntry
+entry_of_parts names x = entry_of names (element_of x.0 x.1)
+
+abbrev entry_view : ElementMode Operator × Items Operator → Element Operator
+entry_view x = element_of x.0 x.1
+
+-- A segment after its flags. `omits` says whether the type of its items is omitted.
+segment_measured : (names omits : Bool) (modes : Grammar (ElementMode (Placed Operator))) (contents : Grammar (Items (Placed Operator))) →
+    ((p : ℕ) (t : List ℕ) (m : ElementMode (Placed Operator)) → modes.spells p t m → omits_type names m ≡ omits) →
+    Measured mode_without_places modes.spells (element_mode_len names) → Measured items_without_places contents.spells (element_items_len omits) →
+    Measured element_without_places (segment names modes contents).spells (λ e. element_len e - 1)
+segment_measured names omits modes contents are m n =
+    map_measured_where (entry_of_parts names)
+    (λ p text x (t, u, joined, mode, items).
+      let same_items : element_items_len (omits_type names x.0) x.1 ≡ element_items_len omits x.1 =
+      ap (λ (b : Bool). element_items_len b x.1) (are p t x.0 mode) in
+      omega (arith, same_items))
+    (λ x y e. ap entry_view e) (then_measured m n)
+
+element_below : (n p : ℕ) (t : List ℕ) (a : ElementEntry) → (element_after n).spells p t a → n < 8
+element_below n p t a s =
+    elim (cases_lt n 8) [
+      | inl less ↦ less
+      | inr above ↦
+          let none : element_after n ≡ fail =
+          rw (ne_eqb n 0 (λ z. omega (arith, above, z)), ne_eqb n 1 (λ z. omega (arith, above, z)), ne_eqb n 2 (λ z. omega (arith, above, z)),
+          ne_eqb n 3 (λ z. omega (arith, above, z)), ne_eqb n 4 (λ z. omega (arith, above, z)), ne_eqb n 5 (λ z. omega (arith, above, z)),
+          ne_eqb n 6 (λ z. omega (arith, above, z)), ne_eqb n 7 (λ z. omega (arith, above, z))) refl in
+          absurd (subst (λ (g : Grammar ElementEntry). g.spells p t a) none s)
+    ]
+
+element_after_measured : (n : ℕ) → Measured element_without_places (element_after n).spells (λ e. element_len e - 1)
+element_after_measured n =
+    choose_measured (n == 0) _ _ (segment_measured false true active function_items active_omits active_measured functions_omitted)
+    (choose_measured (n == 1) _ _ (segment_measured false false (succeed Passive) items_of_kind passive_keeps passive_measured of_kind_measured)
+    (choose_measured (n == 2) _ _ (segment_measured true false active_in items_of_kind (λ p t m s. refl) active_in_measured of_kind_measured)
+    (choose_measured (n == 3) _ _ (segment_measured false false (succeed Declared) items_of_kind declared_keeps declared_measured of_kind_measured)
+    (choose_measured (n == 4) _ _
+    (segment_measured false true active (expression_items (ref_type true Func)) active_omits active_measured (expressions_omitted (ref_type true Func)))
+    (choose_measured (n == 5) _ _ (segment_measured false false (succeed Passive) items_of_type passive_keeps passive_measured of_type_measured)
+    (choose_measured (n == 6) _ _ (segment_measured true false active_in items_of_type (λ p t m s. refl) active_in_measured of_type_measured)
+    (choose_measured (n == 7) _ _
+    (segment_measured false false (succeed Declared) items_of_type declared_keeps declared_measured of_type_measured) fail_measured)))))))
+
+pub element_measured : Measured element_without_places element.spells element_len
+element_measured = number_after_measured element_after 8 (omega arith) element_below (λ e. omega arith) element_after_measured
