@@ -230,3 +230,145 @@ element_after_measured n =
 
 pub element_measured : Measured element_without_places element.spells element_len
 element_measured = number_after_measured element_after 8 (omega arith) element_below (λ e. omega arith) element_after_measured
+
+-- ---- Data segments
+
+abbrev DataEntry : Type 0
+DataEntry = Data (Placed Operator)
+
+abbrev default_data : Code × List ℕ → DataEntry
+default_data x = data_of (ActiveData 0 x.0) x.1
+
+-- Active in memory 0, which the bytes omit.
+abbrev DefaultData : ℕ → List ℕ → DataEntry → Type 0
+DefaultData p t a = Under (λ x. Some (default_data x)) (Led 0x00 (Then constant.spells byte_vec.spells)) p t a
+
+abbrev passive_data : List ℕ → DataEntry
+passive_data bytes = data_of PassiveData bytes
+
+abbrev PassiveSegment : ℕ → List ℕ → DataEntry → Type 0
+PassiveSegment p t a = Under (λ x. Some (passive_data x)) (Led 0x01 byte_vec.spells) p t a
+
+abbrev data_in : (ℕ × Code) × List ℕ → DataEntry
+data_in x = data_of (ActiveData x.0.0 x.0.1) x.1
+
+-- Active in another memory.
+abbrev OtherData : ℕ → List ℕ → DataEntry → Type 0
+OtherData p t a = Under (λ x. Some (data_in x)) (Led 0x02 (Then (Then OtherMemory constant.spells) byte_vec.spells)) p t a
+
+abbrev BriefData : ℕ → List ℕ → DataEntry → Type 0
+BriefData p t a = Either DefaultData (Either PassiveSegment OtherData) p t a
+
+abbrev default_view : List Operator × List ℕ → Data Operator
+default_view x = data_of (ActiveData 0 x.0) x.1
+
+abbrev data_view : (ℕ × List Operator) × List ℕ → Data Operator
+data_view x = data_of (ActiveData x.0.0 x.0.1) x.1
+
+brief_data_measured : Measured data_without_places BriefData data_len
+brief_data_measured =
+    either_measured
+    (map_measured default_data (λ x. omega arith) (λ x y e. ap default_view e) (led_measured 0x00 (then_measured constant_measured byte_vec_measured)))
+    (either_measured
+    (map_measured passive_data (λ x. omega arith) (λ x y e. ap (λ (z : List ℕ). data_without_places (passive_data z)) e) (led_measured 0x01 byte_vec_measured))
+    (map_measured data_in (λ x. omega arith) (λ x y e. ap data_view e)
+    (led_measured 0x02 (then_measured (then_measured other_memory_measured constant_measured) byte_vec_measured))))
+
+-- A segment with flags of one byte.
+flagged : (n p : ℕ) (text u : List ℕ) (a : DataEntry) (x : DataMode (Placed Operator) × List ℕ) → n < 128 → text ≡ n ∷ u → data_of x.0 x.1 ≡ a →
+    (seq (data_mode n) (λ _. byte_vec)).spells (p + 1) u x → data_segment.spells p text a
+flagged n p text u a x less joined is s = ((n, x), ap Some is, (n ∷ [], u, joined, u32_byte n less, s))
+
+default_joined : (p : ℕ) (t : List ℕ) (a : DataEntry) → DefaultData p t a → data_segment.spells p t a
+default_joined p text a ((offset, bytes), made, (u, joined, (v, w, parts, code, rest))) =
+    flagged 0 p text u a (ActiveData 0 offset, bytes) (omega arith) joined (some_is (default_data (offset, bytes)) a made)
+    (v, w, parts, (offset, refl, code), rest)
+
+passive_joined : (p : ℕ) (t : List ℕ) (a : DataEntry) → PassiveSegment p t a → data_segment.spells p t a
+passive_joined p text a (bytes, made, (u, joined, rest)) =
+    flagged 1 p text u a (PassiveData, bytes) (omega arith) joined (some_is (passive_data bytes) a made) ([], u, refl, (refl, refl), rest)
+
+other_joined : (p : ℕ) (t : List ℕ) (a : DataEntry) → OtherData p t a → data_segment.spells p t a
+other_joined p text a (((memory, offset), bytes), made, (u, joined, (v, w, parts, (i, j, split, (m, other, index), code), rest))) =
+    let same_memory : m ≡ memory = non_zero_is m memory other in
+    let value : ◌≡◌ {A = Option (DataMode (Placed Operator))} (Some (ActiveData m offset)) (Some (ActiveData memory offset)) =
+    ap (λ (k : ℕ). Some (ActiveData k offset)) same_memory in
+    flagged 2 p text u a (ActiveData memory offset, bytes) (omega arith) joined (some_is (data_in ((memory, offset), bytes)) a made)
+    (v, w, parts, ((m, offset), value, (i, j, split, index, code)), rest)
+
+-- A segment in memory 0 has an encoding that omits the memory. Its mode is from the place p on.
+default_back : (p : ℕ) (v w : List ℕ) (a : DataEntry) (offset : Code) (bytes : List ℕ) (most : ℕ) → 1 ≤ p → AreBytes v → AreBytes w →
+    default_data (offset, bytes) ≡ a → constant.spells p v offset → byte_vec.spells p w bytes → 1 + (length v + length w) ≤ most →
+    HasWithin BriefData a most
+default_back p v w a offset bytes most some are_v are_w is code rest size =
+    let place : p - 1 + 1 ≡ p = omega (arith, some) in
+    let spelled : constant.spells (p - 1 + 1) v offset = subst (λ (q : ℕ). constant.spells q v offset) (sym place) code in (
+      p - 1,
+      0x00 ∷ (v ++ w),
+      (omega arith, are_joined v w are_v are_w),
+      inl ((offset, bytes), ap Some is, (v ++ w, refl, (v, w, refl, spelled, rest))),
+      omega (arith, size, length-append v w),
+    )
+
+-- A segment in a memory has an encoding with the flags in one byte. Its mode is from the place p on.
+memory_back : (p memory : ℕ) (i j w : List ℕ) (a : DataEntry) (offset : Code) (bytes : List ℕ) (most : ℕ) → 1 ≤ p → AreBytes i → AreBytes j →
+    AreBytes w → data_in ((memory, offset), bytes) ≡ a → u32.spells p i memory → constant.spells (p + length i) j offset →
+    byte_vec.spells p w bytes → 1 + (length i + length j + length w) ≤ most → HasWithin BriefData a most
+memory_back p memory i j w a offset bytes most some are_i are_j are_w is index code rest size =
+    elim (cases_eq memory 0) [
+      | inl zeroth ↦
+          let default : default_data (offset, bytes) ≡ a = ap (λ (k : ℕ). data_in ((k, offset), bytes)) (sym zeroth) ∙ is in
+          default_back (p + length i) j w a offset bytes most (omega (arith, some)) are_j are_w default code rest (omega (arith, size))
+      | inr other ↦
+          let place : p - 1 + 1 ≡ p = omega (arith, some) in
+          let spelled : constant.spells (p - 1 + 1 + length i) j offset =
+          subst (λ (q : ℕ). constant.spells (q + length i) j offset) (sym place) code in (
+            p - 1,
+            0x02 ∷ ((i ++ j) ++ w),
+            (omega arith, are_joined (i ++ j) w (are_joined i j are_i are_j) are_w),
+            inr (inr (((memory, offset), bytes), ap Some is,
+              ((i ++ j) ++ w, refl, (i ++ j, w, refl, (i, j, refl, (memory, non_zero_from memory other, index), spelled), rest)))),
+            omega (arith, size, length-append (i ++ j) w, length-append i j),
+          )
+    ]
+
+data_back : (p : ℕ) (t : List ℕ) (a : DataEntry) → AreBytes t → data_segment.spells p t a → HasWithin BriefData a (length t)
+data_back p text a are ((flags, (kind, bytes)), is, (t, u, joined, number, (v, w, parts, mode, rest))) =
+    let (are_t, are_u) = split_bytes text t u joined are in
+    let (are_v, are_w) = split_bytes u v w parts are_u in
+    let some : 1 ≤ length t = u32_some t flags number in
+    let size : length text ≡ length t + (length v + length w) = omega (arith, joined_length text t u joined, joined_length u v w parts) in
+    let value : data_of kind bytes ≡ a = some_is (data_of kind bytes) a is in
+    let as_kind : (m : DataMode (Placed Operator)) → ◌≡◌ {A = Option (DataMode (Placed Operator))} (Some m) (Some kind) → data_of m bytes ≡ a =
+    λ m e. ap (λ (k : DataMode (Placed Operator)). data_of k bytes) (some_is m kind e) ∙ value in
+    elim (choose_cases (flags == 0) (map_value (ActiveData 0) constant) _ (p + length t) v kind mode) [
+      | inl (zeroth, (offset, made, code)) ↦
+          default_back (p + length t) v w a offset bytes (length text) (omega (arith, some)) are_v are_w (as_kind (ActiveData 0 offset) made) code rest
+          (omega (arith, some, size))
+      | inr (other, x) ↦
+          elim (choose_cases (flags == 1) (succeed PassiveData) _ (p + length t) v kind x) [
+            | inl (first, (empty, passive)) ↦ (
+                p,
+                0x01 ∷ w,
+                (omega arith, are_w),
+                inr (inl (bytes, ap Some (as_kind PassiveData (ap Some (sym passive))), (w, refl, rest))),
+                omega (arith, some, size),
+              )
+            | inr (another, y) ↦
+                elim (choose_cases (flags == 2) (map_value (λ (z : ℕ × Code). ActiveData z.0 z.1) (seq u32 (λ _. constant))) fail (p + length t) v kind y) [
+                  | inl (second, ((memory, offset), made, (i, j, split, index, code))) ↦
+                      let (are_i, are_j) = split_bytes v i j split are_v in
+                      memory_back (p + length t) memory i j w a offset bytes (length text) (omega (arith, some)) are_i are_j are_w
+                      (as_kind (ActiveData memory offset) made) index code rest (omega (arith, some, size, joined_length v i j split))
+                  | inr none ↦ absurd none.1
+                ]
+          ]
+    ]
+
+pub data_measured : Measured data_without_places data_segment.spells data_len
+data_measured =
+    covered_measured (λ p t a s. elim s [
+      | inl x ↦ default_joined p t a x
+      | inr (inl x) ↦ passive_joined p t a x
+      | inr (inr x) ↦ other_joined p t a x
+    ]) data_back brief_data_measured
