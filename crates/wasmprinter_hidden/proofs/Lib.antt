@@ -9,3 +9,4 @@ mod Operands
 mod Operators
 mod Expressions
 mod Entries
+mod Laws

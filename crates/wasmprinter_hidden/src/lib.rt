@@ -3,3 +3,4 @@
 
 mod excess;
 pub mod finding;
+pub mod shortest;
