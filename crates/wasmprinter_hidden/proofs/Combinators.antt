@@ -1,9 +1,9 @@
--- The lengths of shortest encodings by each combinator of grammars.
-use Rattle.std.specs.Prelude.{◌≡◌, ℕ, zero, suc, List, [], ◌∷◌, ◌++◌, map, ◌+◌, ◌-◌, ◌<◌, ◌≤◌, ◌⊎◌, length, nat_lt, Bool, true, false, Option, Some, None, ◌==◌, if◌then◌else◌, refl}
+-- The lengths of shortest encodings by each combinator of grammars. A lemma whose name ends in `_measured` says that a
+-- length is that of the shortest encodings. Lemmas that take an encoding apart end in `_cases` or `_parts`.
+use Rattle.std.specs.Prelude.{◌≡◌, ℕ, List, [], ◌∷◌, ◌++◌, map, ◌+◌, ◌-◌, ◌<◌, ◌≤◌, ◌⊎◌, length, Bool, true, false, Option, Some, None, ◌==◌, if◌then◌else◌, refl}
 use Rattle.std.proofs.Common.{sym, ap, subst, ◌∙◌, arith, inl, inr}
-use Rattle.std.proofs.lemmas.Bool.{eq-eqb}
 use Rattle.std.proofs.lemmas.List.{length-append, length-map, map-id}
-use Rattle.wasmprinter_spec.specs.Grammar.{Grammar, Placed, byte, seq, try_map, map_value, succeed, fail, choose, value_with_place, some_is}
+use Rattle.wasmprinter_spec.specs.Grammar.{Grammar, Placed, byte, seq, try_map, map_value, succeed, fail, choose, some_is}
 use Rattle.wasmprinter_spec.specs.Repeated.{AreItems}
 use Rattle.wasmprinter_spec.specs.FirstByte.{only, after_first_byte}
 use Rattle.wasmprinter_spec.specs.Sized.{take_bytes}
@@ -15,11 +15,13 @@ use Rattle.wasmprinter_hidden.proofs.Numbers.{unsigned_at_least, unsigned_one_ha
 
 -- ---- Bytes
 
+-- Bytes that are joined are bytes.
 pub are_joined : (t u : List ℕ) → AreBytes t → AreBytes u → AreBytes (t ++ u)
 are_joined [] u first second = second
 are_joined (b ∷ t) u first second = (first.0, are_joined t u first.1 second)
 
-pub are_parts : (t u : List ℕ) → AreBytes (t ++ u) → AreBytes t × AreBytes u
+-- Both parts of a list of bytes are bytes.
+are_parts : (t u : List ℕ) → AreBytes (t ++ u) → AreBytes t × AreBytes u
 are_parts [] u all = (tt, all)
 are_parts (b ∷ t) u all = let (first, second) = are_parts t u all.1 in ((all.0, first), second)
 
@@ -27,6 +29,7 @@ are_parts (b ∷ t) u all = let (first, second) = are_parts t u all.1 in ((all.0
 pub split_bytes : (bytes t u : List ℕ) → bytes ≡ t ++ u → AreBytes bytes → AreBytes t × AreBytes u
 split_bytes bytes t u joined all = are_parts t u (subst AreBytes joined all)
 
+-- The length of bytes that are joined.
 pub joined_length : (bytes t u : List ℕ) → bytes ≡ t ++ u → length bytes ≡ length t + length u
 joined_length bytes t u joined = ap length joined ∙ length-append t u
 
@@ -47,6 +50,7 @@ pub record Measured {A B : Type 0} (view : A → B) (S : Spelling A) (len : A �
 abbrev pub same : {A : Type 0} → A → A
 same a = a
 
+-- The law of a grammar of values without places.
 pub is_shortest : {A : Type 0} {g : Grammar A} {len : A → ℕ} → Measured same g.spells len → IsShortest g len
 is_shortest {A = A} {g = g} m = record {
   at_least = m.at_least;
@@ -55,6 +59,7 @@ is_shortest {A = A} {g = g} m = record {
       (short, are_short, subst (λ (x : A). g.spells q short x) is shortly, size);
 }
 
+-- The law of a grammar of values with places.
 pub is_shortest_but : {A B : Type 0} {view : A → B} {g : Grammar A} {len : A → ℕ} → Measured view g.spells len → IsShortestBut view g len
 is_shortest_but m = record { at_least = m.at_least; one_has = m.one_has }
 
@@ -68,9 +73,12 @@ both v w x = (v x.0, w x.1)
 abbrev pub sum_len : {A B : Type 0} → (A → ℕ) → (B → ℕ) → A × B → ℕ
 sum_len k l x = k x.0 + l x.1
 
+-- The relation of `seq`, where the second grammar does not depend on the first value: the bytes are those of x.0 by S, followed
+-- by those of x.1 by T.
 abbrev pub Then : {A B : Type 0} → Spelling A → Spelling B → Spelling (A × B)
 Then S T p text x = (t u : List ℕ) × (text ≡ t ++ u) × S p t x.0 × T (p + length t) u x.1
 
+-- The length of two values, one after the other, is the sum of their lengths.
 pub then_measured : {A B C D : Type 0} {v : A → C} {w : B → D} {S : Spelling A} {T : Spelling B} {k : A → ℕ} {l : B → ℕ} →
     Measured v S k → Measured w T l → Measured (both v w) (Then S T) (sum_len k l)
 then_measured {C = C} {D = D} {v = v} {w = w} {k = k} {l = l} m n = record {
@@ -165,6 +173,7 @@ with_len {k = k} l is m = record {
 abbrev pub one : {A : Type 0} → A → ℕ
 one a = 1
 
+-- A byte has one encoding, which is one byte.
 pub byte_measured : Measured same byte.spells one
 byte_measured = record {
   at_least = λ p bytes b are s. omega (arith, ap length s);
@@ -175,22 +184,18 @@ byte_measured = record {
 pub byte_map_measured : {A : Type 0} (f : ℕ → Option A) → Measured same (try_map f byte).spells one
 byte_map_measured f = try_map_measured f (λ a b e. refl) byte_measured
 
--- n bytes.
-pub bytes_measured : (n : ℕ) → Measured same (take_bytes n).spells length
-bytes_measured n = record {
-  at_least = λ p bytes b are s. omega (arith, ap length s.1);
-  one_has = λ p q bytes b are s. (bytes, b, are, s, refl, ap length (sym s.1));
-}
-
+-- A value that the empty byte string encodes has the length 0.
 pub succeed_measured : {A B : Type 0} {v : A → B} {l : A → ℕ} (a : A) → l a ≡ 0 → Measured v (succeed a).spells l
 succeed_measured {l = l} a none = record {
   at_least = λ p bytes b are s. let size : l b ≡ 0 = ap l s.1 ∙ none in omega (arith, size);
   one_has = λ p q bytes b are s. ([], b, tt, (refl, s.1), refl, sym (ap l s.1 ∙ none));
 }
 
+-- A grammar without values has every length.
 pub fail_measured : {A B : Type 0} {v : A → B} {l : A → ℕ} → Measured v (fail {A = A}).spells l
 fail_measured = record { at_least = λ p bytes b are s. absurd s; one_has = λ p q bytes b are s. absurd s }
 
+-- Each of the two grammars that a test selects from has these lengths.
 pub choose_measured : {A B : Type 0} {v : A → B} {l : A → ℕ} (c : Bool) (g h : Grammar A) →
     Measured v g.spells l → Measured v h.spells l → Measured v (choose c g h).spells l
 choose_measured true g h m n = m
@@ -202,10 +207,11 @@ choose_measured false g h m n = n
 abbrev pub Either : {A : Type 0} → Spelling A → Spelling A → Spelling A
 Either S T p text a = S p text a ⊎ T p text a
 
+-- Each of the two ways has these lengths.
 pub either_measured : {A B : Type 0} {v : A → B} {S T : Spelling A} {l : A → ℕ} →
     Measured v S l → Measured v T l → Measured v (Either S T) l
 either_measured m n = record {
-  at_least = λ p bytes a are s. elim s [ | inl x ↦ m.at_least p bytes a are x | inr y ↦ n.at_least p bytes a are y ];
+  at_least = λ p bytes a are s. elim s [ inl x ↦ m.at_least p bytes a are x | inr y ↦ n.at_least p bytes a are y ];
   one_has = λ p q bytes a are s.
       elim s [
         | inl x ↦ let (short, b, are_short, shortly, alike, size) = m.one_has p q bytes a are x in (short, b, are_short, inl shortly, alike, size)
@@ -250,6 +256,7 @@ WithPlace S p text x = (x.place ≡ p) × S p text x.value
 abbrev pub of_value : {A B : Type 0} → (A → B) → Placed A → B
 of_value f x = f x.value
 
+-- A place has no bytes.
 pub placed_measured : {A B : Type 0} {v : A → B} {S : Spelling A} {l : A → ℕ} → Measured v S l →
     Measured (of_value v) (WithPlace S) (of_value l)
 placed_measured m = record {
@@ -261,6 +268,7 @@ placed_measured m = record {
 
 -- ---- Items
 
+-- The first half of `items_measured`, by recursion over the items.
 items_at_least : {A B : Type 0} {v : A → B} {l : A → ℕ} (g : Grammar A) → Measured v g.spells l →
     (xs : List A) (p : ℕ) (bytes : List ℕ) → AreBytes bytes → AreItems g p bytes xs → items_len l xs ≤ length bytes
 items_at_least g m [] p bytes are s = omega arith
@@ -271,6 +279,7 @@ items_at_least {l = l} g m (x ∷ xs) p bytes are s =
     let more : items_len l xs ≤ length u = items_at_least g m xs (p + length t) u parts.1 others in
     omega (arith, some, more, joined_length bytes t u joined)
 
+-- The second half of `items_measured`, by recursion over the items.
 items_one_has : {A B : Type 0} {v : A → B} {l : A → ℕ} (g : Grammar A) → Measured v g.spells l →
     (xs : List A) (p q : ℕ) (bytes : List ℕ) → AreBytes bytes → AreItems g p bytes xs →
     (short : List ℕ) × (ys : List A) × AreBytes short × AreItems g q short ys × (map v ys ≡ map v xs) × (length short ≡ items_len l xs)
@@ -291,6 +300,7 @@ items_one_has {B = B} {v = v} {l = l} g m (x ∷ xs) p q bytes are s =
       omega (arith, length-append short shorts, size, all_size),
     )
 
+-- The length of items, one after the other, is the sum of their lengths.
 pub items_measured : {A B : Type 0} {v : A → B} {l : A → ℕ} (g : Grammar A) → Measured v g.spells l →
     Measured (map v) (AreItems g) (items_len l)
 items_measured {v = v} g m = record {
@@ -350,6 +360,7 @@ after_parts {A = A} h p text a s =
       subst (λ (x : A). (h b).spells (p + 1) u x) (some_is c a is) (subst (λ (i : ℕ). (h b).spells i u c) size others),
     )
 
+-- A byte, and then bytes that encode the value after this byte.
 pub after_joined : {A : Type 0} (h : ℕ → Grammar A) (p b : ℕ) (u : List ℕ) (a : A) → (h b).spells (p + 1) u a →
     (after_first_byte h).spells p (b ∷ u) a
 after_joined h p b u a s = ((b, a), refl, (b ∷ [], u, refl, refl, s))
@@ -370,11 +381,14 @@ after_measured {l = l} h some m = record {
       (b ∷ short, c, (all.0, are_short), after_joined h q b short c shortly, alike, omega (arith, size, some a));
 }
 
+-- A byte that is given.
 pub only_measured : (c : ℕ) → Measured same (only c).spells one
 only_measured c = byte_map_measured (λ b. if b == c then Some b else None)
 
 -- ---- After a small number
 
+-- A number below k, which is one byte in the shortest encoding, and a value whose grammar depends on this number. The
+-- length of the value includes this byte.
 pub number_after_measured : {A B : Type 0} {v : A → B} {l : A → ℕ} (h : ℕ → Grammar A) (k : ℕ) → k ≤ 128 →
     ((n p : ℕ) (t : List ℕ) (a : A) → (h n).spells p t a → n < k) → ((a : A) → 1 ≤ l a) →
     ((n : ℕ) → Measured v (h n).spells (λ a. l a - 1)) → Measured v (map_value (λ x. x.1) (seq u32 h)).spells l
@@ -402,16 +416,19 @@ number_after_measured {A = A} {v = v} {l = l} h k small below some m = record {
 
 -- ---- Choices
 
+-- A value of a grammar that a test selects, by the test.
 pub choose_cases : {A : Type 0} (c : Bool) (g h : Grammar A) (p : ℕ) (t : List ℕ) (a : A) → (choose c g h).spells p t a →
     ((c ≡ true) × g.spells p t a) ⊎ ((c ≡ false) × h.spells p t a)
 choose_cases true g h p t a s = inl (refl, s)
 choose_cases false g h p t a s = inr (refl, s)
 
+-- A value of the first grammar, if the test is true.
 pub choose_first : {A : Type 0} (c : Bool) (g h : Grammar A) (p : ℕ) (t : List ℕ) (a : A) → c ≡ true → g.spells p t a →
     (choose c g h).spells p t a
 choose_first true g h p t a e s = s
 choose_first false g h p t a e s = absurd cc
 
+-- A value of the second grammar, if the test is false.
 pub choose_second : {A : Type 0} (c : Bool) (g h : Grammar A) (p : ℕ) (t : List ℕ) (a : A) → c ≡ false → h.spells p t a →
     (choose c g h).spells p t a
 choose_second false g h p t a e s = s
@@ -427,6 +444,7 @@ Led c S p text a = (u : List ℕ) × (text ≡ c ∷ u) × S (p + 1) u a
 abbrev pub led_len : {A : Type 0} → (A → ℕ) → A → ℕ
 led_len l a = 1 + l a
 
+-- A given byte and a value.
 pub led_measured : {A B : Type 0} {v : A → B} {S : Spelling A} {l : A → ℕ} (c : ℕ) → Measured v S l → Measured v (Led c S) (led_len l)
 led_measured {l = l} c m = record {
   at_least = λ p bytes a are s.
@@ -443,6 +461,7 @@ led_measured {l = l} c m = record {
 
 -- ---- A value, and then another whose encoding depends on the first
 
+-- The relation of `seq`: the bytes are those of x.0 by S, followed by those of x.1 by T x.0.
 abbrev pub ThenBy : {A B : Type 0} → Spelling A → (A → Spelling B) → Spelling (A × B)
 ThenBy S T p text x = (t u : List ℕ) × (text ≡ t ++ u) × S p t x.0 × T x.0 (p + length t) u x.1
 
@@ -450,6 +469,7 @@ ThenBy S T p text x = (t u : List ℕ) × (text ≡ t ++ u) × S p t x.0 × T x.
 abbrev pub sum_len_by : {A B : Type 0} → (A → ℕ) → (A → B → ℕ) → A × B → ℕ
 sum_len_by k l x = k x.0 + l x.0 x.1
 
+-- The length of a value, and of another whose encoding depends on the first.
 pub then_by_measured : {A B C : Type 0} {w : B → C} {S : Spelling A} {k : A → ℕ} (T : A → Spelling B) (l : A → B → ℕ) →
     Measured same S k → ((a : A) → Measured w (T a) (l a)) → Measured (both same w) (ThenBy S T) (sum_len_by k l)
 then_by_measured {A = A} {B = B} {C = C} {w = w} {S = S} {k = k} T l m n = record {

@@ -1,28 +1,28 @@
 -- The lengths of the shortest encodings of tables, globals, element segments and data segments (section 5.5 of the
 -- standard).
-use Rattle.std.specs.Prelude.{◌≡◌, ℕ, List, [], ◌∷◌, ◌++◌, map, ◌+◌, ◌-◌, ◌<◌, ◌≤◌, ◌⊎◌, length, Bool, true, false, ◌==◌, if◌then◌else◌, Option, Some, None, refl}
+use Rattle.std.specs.Prelude.{◌≡◌, ℕ, List, [], ◌∷◌, ◌++◌, ◌+◌, ◌-◌, ◌<◌, ◌≤◌, length, Bool, true, false, ◌==◌, Option, Some, None, refl}
 use Rattle.std.proofs.Common.{sym, ap, subst, ◌∙◌, arith, inl, inr, eqb}
-use Rattle.std.proofs.lemmas.Bool.{eqb-true, eq-eqb, ne_eqb, cases_lt, cases_eq}
+use Rattle.std.proofs.lemmas.Bool.{ne_eqb, cases_lt, cases_eq}
 use Rattle.std.proofs.lemmas.List.{length-append}
-use Rattle.wasmprinter_spec.specs.Grammar.{Grammar, Placed, seq, map_value, succeed, fail, choose, some_is}
+use Rattle.wasmprinter_spec.specs.Grammar.{Grammar, Placed, seq, map_value, succeed, fail, some_is}
 use Rattle.wasmprinter_spec.specs.Choices.{tested}
 use Rattle.wasmprinter_spec.specs.FirstByte.{only}
-use Rattle.wasmprinter_spec.specs.Name.{u32, vec}
+use Rattle.wasmprinter_spec.specs.Name.{u32}
 use Rattle.wasmprinter_spec.specs.Types.{RefType, ref_type, Func, TableType, GlobalType}
 use Rattle.wasmprinter_spec.specs.Operator.{Operator}
 use Rattle.wasmprinter_spec.specs.Placed.{Table, table_of, Global, global_of, ElementMode, Passive, Declared, Active, Items, Functions, Expressions, element_of, Element, ElementEntry, entry_of, DataMode, PassiveData, ActiveData, Data, data_of}
-use Rattle.wasmprinter_spec.specs.Module.{without_places, table_without_places, global_without_places, mode_without_places, items_without_places, element_without_places, data_without_places}
+use Rattle.wasmprinter_spec.specs.Module.{table_without_places, global_without_places, mode_without_places, items_without_places, element_without_places, data_without_places}
 use Rattle.wasmprinter_spec.specs.Instructions.{constant}
 use Rattle.wasmprinter_spec.specs.Binary.{AreBytes}
-use Rattle.wasmprinter_spec.specs.Binary.ValTypes.{ref_type_after, reference_type}
-use Rattle.wasmprinter_spec.specs.Binary.Tables.{table_type, table_by, table}
-use Rattle.wasmprinter_spec.specs.Binary.Globals.{global_type, global}
+use Rattle.wasmprinter_spec.specs.Binary.ValTypes.{ref_type_after}
+use Rattle.wasmprinter_spec.specs.Binary.Tables.{table_type, table}
+use Rattle.wasmprinter_spec.specs.Binary.Globals.{global}
 use Rattle.wasmprinter_spec.specs.Binary.Elements.{active, active_in, function_items, items_of_kind, expression_items, items_of_type, segment, element_after, element}
 use Rattle.wasmprinter_spec.specs.Binary.DataSegments.{byte_vec, data_mode}
 use Rattle.wasmprinter_spec.specs.Binary.DataSegments.{segment as data_segment}
-use Rattle.wasmprinter_hidden.specs.Lengths.{unsigned_len, list_len, ref_type_len, expression_len, table_len, global_len, element_mode_len, omits_type, element_items_len, element_len, data_len}
+use Rattle.wasmprinter_hidden.specs.Lengths.{ref_type_len, table_len, global_len, element_mode_len, omits_type, element_items_len, element_len, data_len}
 use Rattle.wasmprinter_hidden.proofs.Numbers.{digits_some}
-use Rattle.wasmprinter_hidden.proofs.Combinators.{Measured, same, both, Under, Either, HasWithin, Led, Then, are_joined, split_bytes, joined_length, map_measured, map_measured_where, then_measured, then_by_measured, vec_measured, list_measured, succeed_measured, fail_measured, choose_measured, either_measured, covered_measured, same_measured, led_measured, only_measured, number_after_measured, after_parts, choose_cases, choose_first, choose_second}
+use Rattle.wasmprinter_hidden.proofs.Combinators.{Measured, Under, Either, HasWithin, Led, Then, are_joined, split_bytes, joined_length, coarser, map_measured, map_measured_where, then_measured, then_by_measured, vec_measured, list_measured, succeed_measured, fail_measured, choose_measured, either_measured, covered_measured, same_measured, led_measured, only_measured, number_after_measured, after_parts, choose_cases, choose_first, choose_second}
 use Rattle.wasmprinter_hidden.proofs.Names.{u32_measured, byte_vec_measured}
 use Rattle.wasmprinter_hidden.proofs.ValTypes.{ref_first, ref_measured}
 use Rattle.wasmprinter_hidden.proofs.ExternTypes.{table_type_measured, global_type_measured}
@@ -39,21 +39,27 @@ Code = List (Placed Operator)
 abbrev InitParts : Type 0
 InitParts = ℕ × (ℕ × (TableType × Code))
 
+-- The table of these parts.
 abbrev table_of_parts : InitParts → Table (Placed Operator)
 table_of_parts x = table_of x.1.1.0 (Some x.1.1.1)
 
+-- The bytes 40 00, a table type and an initialiser.
 abbrev init_grammar : Grammar InitParts
 init_grammar = seq (only 0x40) (λ _. seq (only 0x00) (λ _. seq table_type (λ _. constant)))
 
+-- A table with an initialiser.
 abbrev WithInit : ℕ → List ℕ → Table (Placed Operator) → Type 0
 WithInit p t a = (map_value table_of_parts init_grammar).spells p t a
 
+-- The table of this type without an initialiser.
 abbrev table_alone : TableType → Table (Placed Operator)
 table_alone t = table_of t None
 
+-- A table without an initialiser.
 abbrev WithoutInit : ℕ → List ℕ → Table (Placed Operator) → Type 0
 WithoutInit p t a = (map_value table_alone table_type).spells p t a
 
+-- The encodings of tables are these.
 table_cases : (p : ℕ) (t : List ℕ) (a : Table (Placed Operator)) → table.spells p t a → Either WithInit WithoutInit p t a
 table_cases p [] a s = absurd s
 table_cases p (b ∷ bs) a s =
@@ -87,7 +93,7 @@ table_view x = table_of x.1.1.0 (Some x.1.1.1)
 
 pub table_measured : Measured table_without_places table.spells table_len
 table_measured =
-    same_measured (λ p t a s. elim s [ | inl x ↦ with_init p t a x | inr x ↦ without_init p t a x ]) table_cases
+    same_measured (λ p t a s. elim s [ inl x ↦ with_init p t a x | inr x ↦ without_init p t a x ]) table_cases
     (either_measured
     (map_measured table_of_parts (λ x. omega arith) (λ x y e. ap table_view e)
     (then_measured (only_measured 0x40) (then_measured (only_measured 0x00) (then_measured table_type_measured constant_measured))))
@@ -95,9 +101,11 @@ table_measured =
 
 -- ---- Globals
 
+-- The global of this type and initialiser.
 abbrev global_of_parts : GlobalType × Code → Global (Placed Operator)
 global_of_parts x = global_of x.0 x.1
 
+-- The same without places.
 abbrev global_view : GlobalType × List Operator → Global Operator
 global_view x = global_of x.0 x.1
 
@@ -107,15 +115,18 @@ global_measured =
 
 -- ---- Element segments: modes
 
+-- Active in table 0, with this offset.
 abbrev active_of : Code → ElementMode (Placed Operator)
 active_of offset = Active 0 offset
 
 active_measured : Measured mode_without_places active.spells (element_mode_len false)
 active_measured = map_measured active_of (λ offset. omega arith) (λ x y e. ap (λ (ops : List Operator). Active 0 ops) e) constant_measured
 
+-- Active in this table, with this offset.
 abbrev active_in_of : ℕ × Code → ElementMode (Placed Operator)
 active_in_of x = Active x.0 x.1
 
+-- The same without places.
 abbrev active_view : ℕ × List Operator → ElementMode Operator
 active_view x = Active x.0 x.1
 
@@ -147,6 +158,7 @@ items_some : (i : Items (Placed Operator)) → 1 ≤ element_items_len false i
 items_some (Functions indices) = omega arith
 items_some (Expressions t es) = omega (arith, digits_some 9 (length es))
 
+-- Function indices without a byte before them.
 functions_omitted : Measured items_without_places function_items.spells (element_items_len true)
 functions_omitted = map_measured Functions (λ ns. omega arith) (λ x y e. ap Functions e) (list_measured u32 u32_measured)
 
@@ -154,11 +166,13 @@ functions_omitted = map_measured Functions (λ ns. omega arith) (λ x y e. ap Fu
 functions_kept : Measured items_without_places function_items.spells (λ i. element_items_len false i - 1)
 functions_kept = map_measured Functions (λ ns. omega arith) (λ x y e. ap Functions e) (list_measured u32 u32_measured)
 
+-- Function indices after the byte 00.
 of_kind_measured : Measured items_without_places items_of_kind.spells (element_items_len false)
 of_kind_measured =
     map_measured (λ (x : ℕ × Items (Placed Operator)). x.1) (λ x. omega (arith, items_some x.1)) (λ x y e. ap (λ (z : ℕ × Items Operator). z.1) e)
     (then_measured (only_measured 0x00) functions_kept)
 
+-- Expressions without their type before them.
 expressions_omitted : (t : RefType) → Measured items_without_places (expression_items t).spells (element_items_len true)
 expressions_omitted t =
     map_measured (Expressions t) (λ es. omega arith) (λ x y e. ap (λ (es : List (List Operator)). Expressions t es) e)
@@ -172,6 +186,7 @@ type_kept t p u i (es, made, spelled) =
     let size : element_items_len false (Expressions t es) ≡ ref_type_len t + element_items_len true (Expressions t es) = omega arith in
     subst (λ (x : Items (Placed Operator)). element_items_len false x ≡ ref_type_len t + element_items_len true x) is size
 
+-- Expressions after their type.
 of_type_measured : Measured items_without_places items_of_type.spells (element_items_len false)
 of_type_measured =
     map_measured_where (λ (x : RefType × Items (Placed Operator)). x.1)
@@ -181,41 +196,57 @@ of_type_measured =
 
 -- ---- Element segments
 
+-- The mode and the items of a segment.
 abbrev Entry : Type 0
 Entry = ElementMode (Placed Operator) × Items (Placed Operator)
 
+-- The segment with this mode and these items. The first argument says whether the bytes name its table.
 abbrev entry_of_parts : Bool → Entry → ElementEntry
 entry_of_parts names x = entry_of names (element_of x.0 x.1)
 
+-- The same without places.
 abbrev entry_view : ElementMode Operator × Items Operator → Element Operator
 entry_view x = element_of x.0 x.1
+
+-- The segment without the places of its operators, and whether the bytes name its table.
+abbrev entry_without_places : ElementEntry → Bool × Element Operator
+entry_without_places e = (e.has_table_index, element_without_places e)
 
 -- A segment after its flags. `omits` says whether the type of its items is omitted.
 segment_measured : (names omits : Bool) (modes : Grammar (ElementMode (Placed Operator))) (contents : Grammar (Items (Placed Operator))) →
     ((p : ℕ) (t : List ℕ) (m : ElementMode (Placed Operator)) → modes.spells p t m → omits_type names m ≡ omits) →
     Measured mode_without_places modes.spells (element_mode_len names) → Measured items_without_places contents.spells (element_items_len omits) →
-    Measured element_without_places (segment names modes contents).spells (λ e. element_len e - 1)
+    Measured entry_without_places (segment names modes contents).spells (λ e. element_len e - 1)
 segment_measured names omits modes contents are m n =
     map_measured_where (entry_of_parts names)
     (λ p text x (t, u, joined, mode, items).
-      let same_items : element_items_len (omits_type names x.0) x.1 ≡ element_items_len omits x.1 =
-      ap (λ (b : Bool). element_items_len b x.1) (are p t x.0 mode) in
-      omega (arith, same_items))
-    (λ x y e. ap entry_view e) (then_measured m n)
+    let same_items : element_items_len (omits_type names x.0) x.1 ≡ element_items_len omits x.1 =
+    ap (λ (b : Bool). element_items_len b x.1) (are p t x.0 mode) in
+    omega (arith, same_items))
+    (λ x y e. ap (λ (z : ElementMode Operator × Items Operator). (names, entry_view z)) e) (then_measured m n)
 
+-- The flags of an element segment are below 8.
 element_below : (n p : ℕ) (t : List ℕ) (a : ElementEntry) → (element_after n).spells p t a → n < 8
 element_below n p t a s =
     elim (cases_lt n 8) [
       | inl less ↦ less
       | inr above ↦
           let none : element_after n ≡ fail =
-          rw (ne_eqb n 0 (λ z. omega (arith, above, z)), ne_eqb n 1 (λ z. omega (arith, above, z)), ne_eqb n 2 (λ z. omega (arith, above, z)),
-          ne_eqb n 3 (λ z. omega (arith, above, z)), ne_eqb n 4 (λ z. omega (arith, above, z)), ne_eqb n 5 (λ z. omega (arith, above, z)),
-          ne_eqb n 6 (λ z. omega (arith, above, z)), ne_eqb n 7 (λ z. omega (arith, above, z))) refl in
+          rw (
+            ne_eqb n 0 (λ z. omega (arith, above, z)),
+            ne_eqb n 1 (λ z. omega (arith, above, z)),
+            ne_eqb n 2 (λ z. omega (arith, above, z)),
+            ne_eqb n 3 (λ z. omega (arith, above, z)),
+            ne_eqb n 4 (λ z. omega (arith, above, z)),
+            ne_eqb n 5 (λ z. omega (arith, above, z)),
+            ne_eqb n 6 (λ z. omega (arith, above, z)),
+            ne_eqb n 7 (λ z. omega (arith, above, z)),
+          ) refl in
           absurd (subst (λ (g : Grammar ElementEntry). g.spells p t a) none s)
     ]
 
-element_after_measured : (n : ℕ) → Measured element_without_places (element_after n).spells (λ e. element_len e - 1)
+-- An element segment after each of the flags.
+element_after_measured : (n : ℕ) → Measured entry_without_places (element_after n).spells (λ e. element_len e - 1)
 element_after_measured n =
     choose_measured (n == 0) _ _ (segment_measured false true active function_items active_omits active_measured functions_omitted)
     (choose_measured (n == 1) _ _ (segment_measured false false (succeed Passive) items_of_kind passive_keeps passive_measured of_kind_measured)
@@ -228,14 +259,20 @@ element_after_measured n =
     (choose_measured (n == 7) _ _
     (segment_measured false false (succeed Declared) items_of_type declared_keeps declared_measured of_type_measured) fail_measured)))))))
 
+-- The shortest encoding also names the table or not, as each encoding of the segment does.
+pub element_entry_measured : Measured entry_without_places element.spells element_len
+element_entry_measured = number_after_measured element_after 8 (omega arith) element_below (λ e. omega arith) element_after_measured
+
 pub element_measured : Measured element_without_places element.spells element_len
-element_measured = number_after_measured element_after 8 (omega arith) element_below (λ e. omega arith) element_after_measured
+element_measured = coarser (λ a b e. ap (λ (z : Bool × Element Operator). z.1) e) element_entry_measured
 
 -- ---- Data segments
 
+-- A data segment with the places of its operators.
 abbrev DataEntry : Type 0
 DataEntry = Data (Placed Operator)
 
+-- The segment that is active in memory 0, with this offset and these bytes.
 abbrev default_data : Code × List ℕ → DataEntry
 default_data x = data_of (ActiveData 0 x.0) x.1
 
@@ -243,12 +280,15 @@ default_data x = data_of (ActiveData 0 x.0) x.1
 abbrev DefaultData : ℕ → List ℕ → DataEntry → Type 0
 DefaultData p t a = Under (λ x. Some (default_data x)) (Led 0x00 (Then constant.spells byte_vec.spells)) p t a
 
+-- The passive segment with these bytes.
 abbrev passive_data : List ℕ → DataEntry
 passive_data bytes = data_of PassiveData bytes
 
+-- A passive segment.
 abbrev PassiveSegment : ℕ → List ℕ → DataEntry → Type 0
 PassiveSegment p t a = Under (λ x. Some (passive_data x)) (Led 0x01 byte_vec.spells) p t a
 
+-- The segment that is active in this memory, with this offset and these bytes.
 abbrev data_in : (ℕ × Code) × List ℕ → DataEntry
 data_in x = data_of (ActiveData x.0.0 x.0.1) x.1
 
@@ -256,12 +296,15 @@ data_in x = data_of (ActiveData x.0.0 x.0.1) x.1
 abbrev OtherData : ℕ → List ℕ → DataEntry → Type 0
 OtherData p t a = Under (λ x. Some (data_in x)) (Led 0x02 (Then (Then OtherMemory constant.spells) byte_vec.spells)) p t a
 
+-- The encodings of data segments that have no needless memory index and one byte of flags.
 abbrev BriefData : ℕ → List ℕ → DataEntry → Type 0
 BriefData p t a = Either DefaultData (Either PassiveSegment OtherData) p t a
 
+-- The same as `default_data` without places.
 abbrev default_view : List Operator × List ℕ → Data Operator
 default_view x = data_of (ActiveData 0 x.0) x.1
 
+-- The same as `data_in` without places.
 abbrev data_view : (ℕ × List Operator) × List ℕ → Data Operator
 data_view x = data_of (ActiveData x.0.0 x.0.1) x.1
 
@@ -279,6 +322,7 @@ flagged : (n p : ℕ) (text u : List ℕ) (a : DataEntry) (x : DataMode (Placed 
     (seq (data_mode n) (λ _. byte_vec)).spells (p + 1) u x → data_segment.spells p text a
 flagged n p text u a x less joined is s = ((n, x), ap Some is, (n ∷ [], u, joined, u32_byte n less, s))
 
+-- The encodings of `BriefData` are encodings of data segments.
 default_joined : (p : ℕ) (t : List ℕ) (a : DataEntry) → DefaultData p t a → data_segment.spells p t a
 default_joined p text a ((offset, bytes), made, (u, joined, (v, w, parts, code, rest))) =
     flagged 0 p text u a (ActiveData 0 offset, bytes) (omega arith) joined (some_is (default_data (offset, bytes)) a made)
@@ -326,12 +370,16 @@ memory_back p memory i j w a offset bytes most some are_i are_j are_w is index c
             p - 1,
             0x02 ∷ ((i ++ j) ++ w),
             (omega arith, are_joined (i ++ j) w (are_joined i j are_i are_j) are_w),
-            inr (inr (((memory, offset), bytes), ap Some is,
-              ((i ++ j) ++ w, refl, (i ++ j, w, refl, (i, j, refl, (memory, non_zero_from memory other, index), spelled), rest)))),
+            inr (inr (
+              ((memory, offset), bytes),
+              ap Some is,
+              ((i ++ j) ++ w, refl, (i ++ j, w, refl, (i, j, refl, (memory, non_zero_from memory other, index), spelled), rest)),
+            )),
             omega (arith, size, length-append (i ++ j) w, length-append i j),
           )
     ]
 
+-- Each encoding of a data segment is at least as long as one of `BriefData`.
 data_back : (p : ℕ) (t : List ℕ) (a : DataEntry) → AreBytes t → data_segment.spells p t a → HasWithin BriefData a (length t)
 data_back p text a are ((flags, (kind, bytes)), is, (t, u, joined, number, (v, w, parts, mode, rest))) =
     let (are_t, are_u) = split_bytes text t u joined are in
@@ -348,12 +396,12 @@ data_back p text a are ((flags, (kind, bytes)), is, (t, u, joined, number, (v, w
       | inr (other, x) ↦
           elim (choose_cases (flags == 1) (succeed PassiveData) _ (p + length t) v kind x) [
             | inl (first, (empty, passive)) ↦ (
-                p,
-                0x01 ∷ w,
-                (omega arith, are_w),
-                inr (inl (bytes, ap Some (as_kind PassiveData (ap Some (sym passive))), (w, refl, rest))),
-                omega (arith, some, size),
-              )
+              p,
+              0x01 ∷ w,
+              (omega arith, are_w),
+              inr (inl (bytes, ap Some (as_kind PassiveData (ap Some (sym passive))), (w, refl, rest))),
+              omega (arith, some, size),
+            )
             | inr (another, y) ↦
                 elim (choose_cases (flags == 2) (map_value (λ (z : ℕ × Code). ActiveData z.0 z.1) (seq u32 (λ _. constant))) fail (p + length t) v kind y) [
                   | inl (second, ((memory, offset), made, (i, j, split, index, code))) ↦

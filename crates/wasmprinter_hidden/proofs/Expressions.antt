@@ -1,5 +1,5 @@
 -- The lengths of the shortest encodings of expressions (section 5.4 of the standard, "Expressions").
-use Rattle.std.specs.Prelude.{◌≡◌, ℕ, List, [], ◌∷◌, ◌++◌, map, ◌+◌, length, Option, Some, refl}
+use Rattle.std.specs.Prelude.{◌≡◌, List, [], ◌∷◌, ◌++◌, map, ◌+◌, length, refl}
 use Rattle.std.proofs.Common.{sym, ap, subst, ◌∙◌, arith}
 use Rattle.std.proofs.lemmas.List.{length-append}
 use Rattle.wasmprinter_spec.specs.Grammar.{Placed, value_with_place}
@@ -11,7 +11,7 @@ use Rattle.wasmprinter_spec.specs.Nesting.{Nests, Sequence}
 use Rattle.wasmprinter_spec.specs.Instructions.{end_byte, Closed, roles, operator, expression, constant}
 use Rattle.wasmprinter_spec.specs.Module.{without_places}
 use Rattle.wasmprinter_hidden.specs.Lengths.{items_len, operator_len, expression_len}
-use Rattle.wasmprinter_hidden.proofs.Combinators.{Measured, same, of_value, are_joined, split_bytes, joined_length, placed_measured, items_measured, map_measured}
+use Rattle.wasmprinter_hidden.proofs.Combinators.{Measured, of_value, are_joined, split_bytes, joined_length, placed_measured, items_measured, map_measured}
 use Rattle.wasmprinter_hidden.proofs.Operators.{operator_measured}
 
 -- The roles of operators do not depend on their places.
@@ -19,6 +19,7 @@ roles_of_values : (ops : List (Placed Operator)) → roles ops ≡ map (λ o. ro
 roles_of_values [] = refl
 roles_of_values (o ∷ ops) = ap (λ (rs : List Role). role_of o.value.opcode ∷ rs) (roles_of_values ops)
 
+-- Operators that differ only by their places have the same roles.
 same_roles : (xs ys : List (Placed Operator)) → without_places xs ≡ without_places ys → roles xs ≡ roles ys
 same_roles xs ys alike =
     roles_of_values xs ∙ ap (map (λ (o : Operator). role_of o.opcode)) alike ∙ sym (roles_of_values ys)
@@ -31,6 +32,7 @@ placed_items = items_measured (value_with_place operator) (placed_measured opera
 abbrev operators_of : Closed (Placed Operator) → List Operator
 operators_of x = without_places x.items
 
+-- The shortest encoding of an expression consists of those of its operators, and of the last `end`.
 expression_measured : Measured operators_of expression.spells (λ x. expression_len x.items)
 expression_measured = record {
   at_least = λ p bytes x are s.
@@ -51,5 +53,6 @@ expression_measured = record {
       );
 }
 
+-- The same without the place of the last `end`.
 pub constant_measured : Measured without_places constant.spells expression_len
 constant_measured = map_measured (λ (x : Closed (Placed Operator)). x.items) (λ x. refl) (λ x y alike. alike) expression_measured

@@ -7,6 +7,7 @@ use Rattle.wasmprinter_hidden.proofs.ExternTypes.{memory_type_measured, tag_meas
 use Rattle.wasmprinter_hidden.proofs.Operators.{operator_measured}
 use Rattle.wasmprinter_hidden.proofs.Entries.{table_measured, global_measured, element_measured, data_measured}
 
+-- Each grammar has the lengths that the definitions say.
 pub are_shortest : AreShortest
 are_shortest = record {
   numbers = is_shortest u32_measured;

@@ -1,5 +1,5 @@
 -- The lengths of the shortest encodings of integers as values of grammars, of byte strings and names.
-use Rattle.std.specs.Prelude.{◌≡◌, ℕ, ℤ, pos, negsuc, List, [], ◌∷◌, ◌++◌, ◌+◌, ◌*◌, ◌≤◌, length, Option, Some, None, refl}
+use Rattle.std.specs.Prelude.{◌≡◌, ℕ, ℤ, pos, negsuc, List, ◌++◌, ◌+◌, ◌≤◌, length, Some, refl}
 use Rattle.std.specs.Str.{is_utf8}
 use Rattle.std.proofs.Common.{sym, ap, subst, ◌∙◌, arith}
 use Rattle.std.proofs.lemmas.List.{length-append}
@@ -10,7 +10,7 @@ use Rattle.wasmprinter_spec.specs.Name.{u32, checked_text, name}
 use Rattle.wasmprinter_spec.specs.Binary.DataSegments.{byte_vec}
 use Rattle.wasmprinter_spec.specs.Binary.ValTypes.{non_negative, signed_index}
 use Rattle.wasmprinter_hidden.specs.Lengths.{unsigned_len, signed_len, bytes_len}
-use Rattle.wasmprinter_hidden.proofs.Numbers.{unsigned_at_least, unsigned_one_has, signed_digits, signed_at_least, signed_one_has, signed_len_is}
+use Rattle.wasmprinter_hidden.proofs.Numbers.{unsigned_at_least, unsigned_one_has, signed_at_least, signed_one_has, signed_len_is}
 use Rattle.wasmprinter_hidden.proofs.Combinators.{Measured, same, split_bytes, joined_length, are_joined, with_len, try_map_measured}
 
 -- Unsigned integers of at most 70 bits, for which ten digits are enough.
@@ -69,6 +69,7 @@ byte_vec_measured = record {
       );
 }
 
+-- The bytes of a name are those that are encoded.
 checked_is : (x y : List ℕ) → checked_text x ≡ Some y → bytes_len y ≡ bytes_len x
 checked_is x y e = ap bytes_len (sym (some_is x y (tested (is_utf8 x) (Some x) y e).1))
 

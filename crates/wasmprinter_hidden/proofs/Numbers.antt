@@ -1,21 +1,21 @@
 -- Integers in LEB128 (section 5.2 of the standard, "Integers"): the lengths of the shortest encodings.
-use Rattle.std.specs.Prelude.{◌≡◌, ℕ, zero, suc, ℤ, pos, negsuc, ◌+ℤ◌, ◌*ℤ◌, List, [], ◌∷◌, ◌+◌, ◌*◌, ◌-◌, ◌/◌, ◌%◌, ◌^◌, ◌<◌, ◌≤◌, ◌⊎◌, length, nat_lt, if◌then◌else◌, refl}
-use Rattle.std.proofs.Common.{sym, ap, subst, ◌∙◌, arith, inl, inr, pow_mono}
+use Rattle.std.specs.Prelude.{◌≡◌, ℕ, zero, suc, ℤ, pos, negsuc, ◌+ℤ◌, ◌*ℤ◌, List, [], ◌∷◌, ◌+◌, ◌*◌, ◌-◌, ◌/◌, ◌^◌, ◌<◌, ◌≤◌, ◌⊎◌, length, refl}
+use Rattle.std.proofs.Common.{sym, ap, ◌∙◌, arith, inl, inr, pow_mono}
 use Rattle.std.proofs.lemmas.Bool.{lt-ltb, le-ltb, cases_lt}
 use Rattle.std.proofs.lemmas.Int.{ints}
 use Rattle.wasmprinter_spec.specs.Leb.{IsUnsigned, IsSigned}
 use Rattle.wasmprinter_spec.specs.Binary.{AreBytes}
-use Rattle.wasmprinter_hidden.specs.Lengths.{digits, unsigned_len, signed_len}
+use Rattle.wasmprinter_hidden.specs.Lengths.{digits, signed_len}
 
 -- ---- Digits in base 128
 
 -- A number below 128 has one digit.
-pub digits_one : (most n : ℕ) → n < 128 → digits most n ≡ 1
+digits_one : (most n : ℕ) → n < 128 → digits most n ≡ 1
 digits_one zero n below = refl
 digits_one (suc most) n below = rw (lt-ltb n 128 below) refl
 
 -- A number from 128 on has one digit more than its quotient by 128.
-pub digits_more : (most n : ℕ) → 128 ≤ n → digits (suc most) n ≡ suc (digits most (n / 128))
+digits_more : (most n : ℕ) → 128 ≤ n → digits (suc most) n ≡ suc (digits most (n / 128))
 digits_more most n above = rw (le-ltb n 128 above) refl
 
 -- There is at least one digit.
@@ -28,7 +28,7 @@ digits_some (suc most) n =
     ]
 
 -- A number has at most one digit more than its quotient by 128.
-pub digits_step : (most n high : ℕ) → n / 128 ≡ high → digits (suc most) n ≤ suc (digits most high)
+digits_step : (most n high : ℕ) → n / 128 ≡ high → digits (suc most) n ≤ suc (digits most high)
 digits_step most n high e =
     elim (cases_lt n 128) [
       | inl below ↦ rw (digits_one (suc most) n below) (omega arith)
@@ -36,7 +36,7 @@ digits_step most n high e =
     ]
 
 -- The lowest bit does not count.
-pub digits_even : (most n : ℕ) → digits most (2 * n + 1) ≡ digits most (2 * n)
+digits_even : (most n : ℕ) → digits most (2 * n + 1) ≡ digits most (2 * n)
 digits_even zero n = refl
 digits_even (suc most) n =
     elim (cases_lt (2 * n) 128) [
@@ -52,6 +52,7 @@ digits_even (suc most) n =
 high_part : (b n high : ℕ) → 128 ≤ b → b < 256 → n ≡ b - 128 + 128 * high → n / 128 ≡ high
 high_part b n high above below is = omega (arith, above, below, is)
 
+-- Each encoding of an unsigned integer has at least a byte for each digit, up to `most + 1` digits.
 pub unsigned_at_least : (most bits : ℕ) (bytes : List ℕ) (n : ℕ) → AreBytes bytes → IsUnsigned bits bytes n → digits most n ≤ length bytes
 unsigned_at_least most bits [] n a s = absurd s
 unsigned_at_least zero bits (b ∷ bs) n a s = omega arith
@@ -97,6 +98,7 @@ abbrev pub signed_digits : ℕ → ℤ → ℕ
 signed_digits most (pos n) = digits most (2 * n)
 signed_digits most (negsuc n) = digits most (2 * n)
 
+-- The length of a signed integer is the number of its digits.
 pub signed_len_is : (z : ℤ) → signed_len z ≡ signed_digits 9 z
 signed_len_is (pos n) = refl
 signed_len_is (negsuc n) = refl
@@ -142,9 +144,11 @@ signed_cases most b n (negsuc h) above below is =
 small_positive : (most m : ℕ) (n : ℤ) → m < 64 → n ≡ pos m → signed_digits most n ≡ 1
 small_positive most m n small same = ap (signed_digits most) same ∙ digits_one most (2 * m) (omega (arith, small))
 
+-- The same for a negative number.
 small_negative : (most m : ℕ) (n : ℤ) → m < 64 → n ≡ negsuc m → signed_digits most n ≡ 1
 small_negative most m n small same = ap (signed_digits most) same ∙ digits_one most (2 * m) (omega (arith, small))
 
+-- Each encoding of a signed integer has at least a byte for each digit, up to `most + 1` digits.
 pub signed_at_least : (most bits : ℕ) (bytes : List ℕ) (n : ℤ) → AreBytes bytes → IsSigned bits bytes n → signed_digits most n ≤ length bytes
 signed_at_least most bits [] n a s = absurd s
 signed_at_least zero bits (b ∷ bs) (pos n) a s = omega arith
@@ -175,8 +179,7 @@ signed_byte most bits m n room small same =
       | inl is ↦ (m ∷ [], (omega (arith, small), tt), inl (small, omega (arith, small, wide), refl, is), sym (small_positive most m n small is))
       | inr is ↦
           let back : 127 - (127 - m) ≡ m = omega (arith, small) in
-          let fits : 127 - (127 - m) < 2 ^ (bits - 1) = omega (arith, small, wide) in
-          (
+          let fits : 127 - (127 - m) < 2 ^ (bits - 1) = omega (arith, small, wide) in (
             (127 - m) ∷ [],
             (omega arith, tt),
             inr (inl (omega (arith, small), omega arith, fits, refl, is ∙ ap negsuc (sym back))),

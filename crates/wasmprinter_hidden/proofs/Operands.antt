@@ -1,25 +1,25 @@
 -- The lengths of the shortest encodings of the parts of operators (section 5.4 of the standard): opcodes, block types,
 -- catch clauses and memory operands.
-use Rattle.std.specs.Prelude.{◌≡◌, ℕ, ℤ, pos, List, [], ◌∷◌, ◌++◌, ◌+◌, ◌-◌, ◌<◌, ◌≤◌, ◌⊎◌, length, nat_lt, Bool, true, false, ◌==◌, is_some, Option, Some, None, if◌then◌else◌, refl}
+use Rattle.std.specs.Prelude.{◌≡◌, ℕ, List, [], ◌∷◌, ◌++◌, ◌+◌, ◌-◌, ◌<◌, ◌≤◌, length, nat_lt, Bool, true, false, ◌==◌, Option, Some, None, if◌then◌else◌, refl}
 use Rattle.std.proofs.Common.{sym, ap, subst, ◌∙◌, arith, inl, inr, eqb, ltb, cond}
-use Rattle.std.proofs.lemmas.Bool.{eqb-true, eqb-false, ltb-true, ltb-false, lt-ltb, le-ltb, ne_eqb, cond_both, cases_eq}
+use Rattle.std.proofs.lemmas.Bool.{ltb-true, ltb-false, lt-ltb, le-ltb, ne_eqb, cond_both, cases_eq}
 use Rattle.std.proofs.lemmas.List.{length-append}
 use Rattle.wasmprinter_spec.specs.Grammar.{Grammar, byte, seq, try_map, map_value, succeed, choose, fail, some_is}
-use Rattle.wasmprinter_spec.specs.Choices.{tested, untested, cond_cases}
+use Rattle.wasmprinter_spec.specs.Choices.{tested, untested}
 use Rattle.wasmprinter_spec.specs.Leb.{IsUnsigned}
 use Rattle.wasmprinter_spec.specs.Name.{u32}
-use Rattle.wasmprinter_spec.specs.Types.{ValType}
 use Rattle.wasmprinter_spec.specs.Binary.{AreBytes}
-use Rattle.wasmprinter_spec.specs.Binary.ValTypes.{non_negative, signed_index, val_type, val_type_after, begins_val_type}
+use Rattle.wasmprinter_spec.specs.Binary.ValTypes.{signed_index, val_type, val_type_after, begins_val_type}
 use Rattle.wasmprinter_spec.specs.Operator.{Opcode, opcode, BlockType, Empty, Value, OfType, Catch, One, OneRef, All, AllRef, MemArg, mem_arg_of}
-use Rattle.wasmprinter_spec.specs.Instructions.{is_prefix, numbered_opcode, opcode_grammar, block_type_by, block_type, tag_and_label, catch_by, catch, u64, mem_arg_by, mem_arg}
+use Rattle.wasmprinter_spec.specs.Instructions.{is_prefix, numbered_opcode, opcode_grammar, block_type, tag_and_label, catch_by, catch, u64, mem_arg}
 use Rattle.wasmprinter_hidden.specs.Lengths.{unsigned_len, opcode_len, block_type_len, catch_len, memory_len, mem_arg_len}
-use Rattle.wasmprinter_hidden.proofs.Combinators.{Measured, same, one, Under, Either, HasWithin, Then, split_bytes, joined_length, are_joined, map_measured, try_map_measured, byte_measured, byte_map_measured, then_measured, succeed_measured, fail_measured, choose_measured, either_measured, covered_measured, same_measured, after_parts, after_joined, after_measured, choose_cases, choose_first, choose_second}
+use Rattle.wasmprinter_hidden.proofs.Combinators.{Measured, same, Under, Either, HasWithin, Then, split_bytes, joined_length, are_joined, map_measured, try_map_measured, byte_measured, byte_map_measured, then_measured, succeed_measured, fail_measured, choose_measured, either_measured, covered_measured, same_measured, after_parts, after_joined, after_measured, choose_cases, choose_first, choose_second}
 use Rattle.wasmprinter_hidden.proofs.Names.{unsigned_measured, u32_measured, signed_index_measured}
 use Rattle.wasmprinter_hidden.proofs.ValTypes.{index_byte, index_begins_none, val_first, val_begins, val_measured}
 
 -- ---- Opcodes
 
+-- An opcode has at least one byte.
 opcode_some : (o : Opcode) → 1 ≤ opcode_len o
 opcode_some o = cond_both (eqb o.prefix 0) 1 (1 + unsigned_len o.number) (λ n. 1 ≤ n) (λ e. omega arith) (λ e. omega arith)
 
@@ -29,6 +29,7 @@ prefix_len b n e =
     let other : eqb b 0 ≡ false = ne_eqb b 0 (λ z. let no : is_prefix 0 ≡ true = ap is_prefix (sym z) ∙ e in absurd cc) in
     rw other (omega arith)
 
+-- An opcode after its first byte.
 numbered_measured : (b : ℕ) (c : Bool) → is_prefix b ≡ c →
     Measured same (choose c (map_value (opcode b) u32) (succeed (opcode 0 b))).spells (λ o. opcode_len o - 1)
 numbered_measured b true e = map_measured (opcode b) (λ n. prefix_len b n e) (λ m n x. ap (opcode b) x) u32_measured
@@ -43,15 +44,19 @@ opcode_measured = after_measured numbered_opcode opcode_some (λ b. numbered_mea
 abbrev empty_of : ℕ → Option BlockType
 empty_of b = if b == 0x40 then Some Empty else None
 
+-- A block type without a result.
 abbrev EmptyBlock : ℕ → List ℕ → BlockType → Type 0
 EmptyBlock p t a = (try_map empty_of byte).spells p t a
 
+-- A block type that is a value type.
 abbrev ValueBlock : ℕ → List ℕ → BlockType → Type 0
 ValueBlock p t a = (map_value Value val_type).spells p t a
 
+-- A block type that is a type index.
 abbrev IndexBlock : ℕ → List ℕ → BlockType → Type 0
 IndexBlock p t a = (map_value OfType signed_index).spells p t a
 
+-- The encodings of block types are these.
 block_cases : (p : ℕ) (t : List ℕ) (a : BlockType) → block_type.spells p t a → Either EmptyBlock (Either ValueBlock IndexBlock) p t a
 block_cases p [] a s = absurd s
 block_cases p (b ∷ bs) a s =
@@ -86,23 +91,25 @@ index_block p [] a (n, made, (z, positive, s)) = absurd s
 index_block p (b ∷ bs) a (n, made, (z, positive, s)) =
     let out = index_byte b bs z n positive s in
     let no_40 : (b == 0x40) ≡ false =
-    ne_eqb b 0x40 (λ e. elim out [ | inl low ↦ omega (arith, low, e) | inr high ↦ omega (arith, high, e) ]) in
+    ne_eqb b 0x40 (λ e. elim out [ inl low ↦ omega (arith, low, e) | inr high ↦ omega (arith, high, e) ]) in
     choose_second (b == 0x40) _ _ p (b ∷ bs) a no_40
     (choose_second (begins_val_type b) _ (map_value OfType signed_index) p (b ∷ bs) a (index_begins_none b out) (n, made, (z, positive, s)))
 
+-- The length of the block type without a result.
 empty_len : (b : ℕ) (a : BlockType) → empty_of b ≡ Some a → block_type_len a ≡ 1
 empty_len b a e = ap block_type_len (sym (some_is Empty a (tested (eqb b 0x40) (Some Empty) a e).1))
 
 pub block_measured : Measured same block_type.spells block_type_len
 block_measured =
     same_measured
-    (λ p t a s. elim s [ | inl x ↦ empty_block p t a x | inr (inl x) ↦ value_block p t a x | inr (inr x) ↦ index_block p t a x ]) block_cases
+    (λ p t a s. elim s [ inl x ↦ empty_block p t a x | inr (inl x) ↦ value_block p t a x | inr (inr x) ↦ index_block p t a x ]) block_cases
     (either_measured (try_map_measured empty_of empty_len byte_measured)
     (either_measured (map_measured Value (λ v. refl) (λ v w e. ap Value e) val_measured)
     (map_measured OfType (λ n. refl) (λ m n e. ap OfType e) signed_index_measured)))
 
 -- ---- Catch clauses
 
+-- A catch clause has at least the byte of its kind.
 catch_some : (c : Catch) → 1 ≤ catch_len c
 catch_some (One tag label) = omega arith
 catch_some (OneRef tag label) = omega arith
@@ -119,10 +126,10 @@ tag_and_label_measured c size =
 pub catch_measured : Measured same catch.spells catch_len
 catch_measured =
     after_measured catch_by catch_some (λ k.
-      choose_measured (k == 0) _ _ (tag_and_label_measured One (λ m n. refl))
-      (choose_measured (k == 1) _ _ (tag_and_label_measured OneRef (λ m n. refl))
-      (choose_measured (k == 2) _ _ (map_measured All (λ n. omega arith) (λ m n e. ap All e) u32_measured)
-      (choose_measured (k == 3) _ _ (map_measured AllRef (λ n. omega arith) (λ m n e. ap AllRef e) u32_measured) fail_measured))))
+    choose_measured (k == 0) _ _ (tag_and_label_measured One (λ m n. refl))
+    (choose_measured (k == 1) _ _ (tag_and_label_measured OneRef (λ m n. refl))
+    (choose_measured (k == 2) _ _ (map_measured All (λ n. omega arith) (λ m n e. ap All e) u32_measured)
+    (choose_measured (k == 3) _ _ (map_measured AllRef (λ n. omega arith) (λ m n e. ap AllRef e) u32_measured) fail_measured))))
 
 -- ---- Memory operands
 
@@ -138,15 +145,18 @@ long_exponent b = if nat_lt b 64 then None else (if nat_lt b 128 then Some (b - 
 abbrev pub non_zero : ℕ → Option ℕ
 non_zero n = if n == 0 then None else Some n
 
-pub non_zero_len : (n m : ℕ) → non_zero n ≡ Some m → memory_len m ≡ unsigned_len n
+-- The length of an index of a memory other than memory 0.
+non_zero_len : (n m : ℕ) → non_zero n ≡ Some m → memory_len m ≡ unsigned_len n
 non_zero_len n m e =
     let (other, is) = untested (eqb n 0) (Some n) m e in
     let size : memory_len n ≡ unsigned_len n = rw other refl in
     ap memory_len (sym (some_is n m is)) ∙ size
 
+-- An index other than 0 is the number that is encoded.
 pub non_zero_is : (n m : ℕ) → non_zero n ≡ Some m → n ≡ m
 non_zero_is n m e = some_is n m (untested (eqb n 0) (Some n) m e).1
 
+-- A number other than 0 is an index other than 0.
 pub non_zero_from : (n : ℕ) → (n ≡ 0 → ⊥) → non_zero n ≡ Some n
 non_zero_from n other = rw (ne_eqb n 0 other) refl
 
@@ -157,6 +167,7 @@ OtherMemory p t n = (try_map non_zero u32).spells p t n
 pub other_memory_measured : Measured same OtherMemory memory_len
 other_memory_measured = try_map_measured non_zero non_zero_len u32_measured
 
+-- The operand in memory 0 with this exponent and this offset.
 abbrev short_mem_arg : ℕ × ℕ → MemArg
 short_mem_arg x = mem_arg_of x.0 0 x.1
 
@@ -164,6 +175,7 @@ short_mem_arg x = mem_arg_of x.0 0 x.1
 abbrev ShortMemArg : ℕ → List ℕ → MemArg → Type 0
 ShortMemArg p t a = Under (λ x. Some (short_mem_arg x)) (Then (try_map short_exponent byte).spells u64.spells) p t a
 
+-- The operand with this exponent, in this memory, with this offset.
 abbrev long_mem_arg : ℕ × (ℕ × ℕ) → MemArg
 long_mem_arg x = mem_arg_of x.0 x.1.0 x.1.1
 
@@ -171,6 +183,7 @@ long_mem_arg x = mem_arg_of x.0 x.1.0 x.1.1
 abbrev LongMemArg : ℕ → List ℕ → MemArg → Type 0
 LongMemArg p t a = Under (λ x. Some (long_mem_arg x)) (Then (try_map long_exponent byte).spells (Then OtherMemory u64.spells)) p t a
 
+-- The encodings of memory operands without a needless index of memory 0.
 brief_mem_arg_measured : Measured same (Either ShortMemArg LongMemArg) mem_arg_len
 brief_mem_arg_measured =
     let offset_measured : Measured same u64.spells unsigned_len = unsigned_measured 64 (omega arith) in
@@ -184,9 +197,11 @@ pub u32_some : (t : List ℕ) (n : ℕ) → IsUnsigned 32 t n → 1 ≤ length t
 u32_some [] n s = absurd s
 u32_some (b ∷ bs) n s = omega arith
 
+-- A number below 128 is encoded by that byte.
 pub u32_byte : (n : ℕ) → n < 128 → IsUnsigned 32 (n ∷ []) n
 u32_byte n below = inl (below, omega (arith, below), refl, refl)
 
+-- These encodings are encodings of memory operands.
 short_joined : (p : ℕ) (t : List ℕ) (a : MemArg) → ShortMemArg p t a → mem_arg.spells p t a
 short_joined p text a ((exponent, offset), made, (t, u, joined, (b, is, byte), spelled)) =
     let (below, same_exponent) = tested (ltb b 64) (Some b) exponent is in
@@ -196,6 +211,7 @@ short_joined p text a ((exponent, offset), made, (t, u, joined, (b, is, byte), s
     let number : IsUnsigned 32 t b = subst (λ (x : List ℕ). IsUnsigned 32 x b) (sym byte) (u32_byte b (omega (arith, less))) in
     ((b, a), refl, (t, u, joined, number, choose_first (nat_lt b 64) (map_value (mem_arg_of b 0) u64) _ (p + length t) u a below (offset, value, spelled)))
 
+-- The parts of a byte of an operand that has the index of its memory.
 long_byte : (b exponent : ℕ) → long_exponent b ≡ Some exponent → (nat_lt b 64 ≡ false) × (nat_lt b 128 ≡ true) × (b - 64 ≡ exponent)
 long_byte b exponent e =
     let (from, rest) = untested (ltb b 64) (cond (ltb b 128) (Some (b - 64)) None) exponent e in
@@ -214,9 +230,17 @@ long_joined p text a ((exponent, (memory, offset)), made, (t, u, joined, (b, is,
     ap (λ (e : ℕ). Some (mem_arg_of e m offset)) same_exponent
     ∙ ap (λ (k : ℕ). Some (mem_arg_of exponent k offset)) (non_zero_is m memory other) ∙ made in
     let number : IsUnsigned 32 t b = subst (λ (x : List ℕ). IsUnsigned 32 x b) (sym byte) (u32_byte b less) in
-    let after : (long_after b).spells (p + length t) u a = ((m, offset), value, (v, w, parts, index, spelled)) in
-    ((b, a), refl, (t, u, joined, number,
-      choose_second (nat_lt b 64) _ _ (p + length t) u a from (choose_first (nat_lt b 128) (long_after b) fail (p + length t) u a below after)))
+    let after : (long_after b).spells (p + length t) u a = ((m, offset), value, (v, w, parts, index, spelled)) in (
+      (b, a),
+      refl,
+      (
+        t,
+        u,
+        joined,
+        number,
+        choose_second (nat_lt b 64) _ _ (p + length t) u a from (choose_first (nat_lt b 128) (long_after b) fail (p + length t) u a below after),
+      ),
+    )
 
 -- Either kind of operand has an encoding without needless bytes, which is not longer.
 short_back : (p n offset : ℕ) (u : List ℕ) (a : MemArg) (most : ℕ) → n < 64 → AreBytes u → mem_arg_of n 0 offset ≡ a → IsUnsigned 64 u offset →
@@ -225,6 +249,7 @@ short_back p n offset u a most below are made spelled size =
     let exponent : short_exponent n ≡ Some n = rw (lt-ltb n 64 below) refl in
     (p, n ∷ u, (omega (arith, below), are), inl ((n, offset), ap Some made, (n ∷ [], u, refl, (n, exponent, refl), spelled)), omega (arith, size))
 
+-- The same for an operand that has the index of its memory, which may be needless.
 long_back : (p n memory offset : ℕ) (v w : List ℕ) (a : MemArg) (most : ℕ) → 64 ≤ n → n < 128 → AreBytes v → AreBytes w →
     mem_arg_of (n - 64) memory offset ≡ a → IsUnsigned 32 v memory → IsUnsigned 64 w offset → 1 + (length v + length w) ≤ most →
     HasWithin (Either ShortMemArg LongMemArg) a most
@@ -238,12 +263,16 @@ long_back p n memory offset v w a most from below are_v are_w made index spelled
             p,
             n ∷ (v ++ w),
             (omega (arith, below), are_joined v w are_v are_w),
-            inr ((n - 64, (memory, offset)), ap Some made,
-              (n ∷ [], v ++ w, refl, (n, exponent, refl), (v, w, refl, (memory, non_zero_from memory other, index), spelled))),
+            inr (
+              (n - 64, (memory, offset)),
+              ap Some made,
+              (n ∷ [], v ++ w, refl, (n, exponent, refl), (v, w, refl, (memory, non_zero_from memory other, index), spelled)),
+            ),
             omega (arith, size, length-append v w),
           )
     ]
 
+-- Each encoding of a memory operand is at least as long as one without a needless index.
 mem_arg_back : (p : ℕ) (t : List ℕ) (a : MemArg) → AreBytes t → mem_arg.spells p t a → HasWithin (Either ShortMemArg LongMemArg) a (length t)
 mem_arg_back p text a are ((n, c), is, (t, u, joined, number, others)) =
     let parts = split_bytes text t u joined are in
@@ -267,4 +296,4 @@ mem_arg_back p text a are ((n, c), is, (t, u, joined, number, others)) =
 
 pub mem_arg_measured : Measured same mem_arg.spells mem_arg_len
 mem_arg_measured =
-    covered_measured (λ p t a s. elim s [ | inl x ↦ short_joined p t a x | inr x ↦ long_joined p t a x ]) mem_arg_back brief_mem_arg_measured
+    covered_measured (λ p t a s. elim s [ inl x ↦ short_joined p t a x | inr x ↦ long_joined p t a x ]) mem_arg_back brief_mem_arg_measured

@@ -1,19 +1,18 @@
 -- The lengths of the shortest encodings of operators (section 5.4 of the standard).
-use Rattle.std.specs.Prelude.{◌≡◌, ℕ, ℤ, List, [], ◌∷◌, ◌+◌, Bool, true, false, ◌&&◌, ◌==◌, cond, length, Option, Some, None, refl}
-use Rattle.std.proofs.Common.{sym, ap, subst, ◌∙◌, arith, inl, inr, eqb}
+use Rattle.std.specs.Prelude.{◌≡◌, ℕ, List, [], ◌∷◌, ◌+◌, Bool, true, false, ◌&&◌, ◌==◌, cond, Option, Some, None, refl}
+use Rattle.std.proofs.Common.{sym, ap, ◌∙◌, arith, inl, inr, eqb}
 use Rattle.std.proofs.lemmas.Bool.{and_parts, eqb-true}
-use Rattle.wasmprinter_spec.specs.Grammar.{Grammar, byte, seq, try_map, map_value, some_is}
+use Rattle.wasmprinter_spec.specs.Grammar.{some_is}
 use Rattle.wasmprinter_spec.specs.Choices.{cond_cases}
-use Rattle.wasmprinter_spec.specs.Leb.{signed}
-use Rattle.wasmprinter_spec.specs.Name.{u32, vec}
-use Rattle.wasmprinter_spec.specs.Types.{HeapType, RefType, ref_type}
+use Rattle.wasmprinter_spec.specs.Name.{u32}
+use Rattle.wasmprinter_spec.specs.Types.{HeapType, ref_type}
 use Rattle.wasmprinter_spec.specs.Binary.ValTypes.{val_type}
-use Rattle.wasmprinter_spec.specs.Operator.{Opcode, opcode, BlockType, Catch, MemArg, Immediates, NoImmediates, Block, TryTable, Index, Indices, BranchTable, Types, Heap, Cast, Memory, MemoryLane, Lane, I32, I64, F32, F64, Bytes, Operator}
+use Rattle.wasmprinter_spec.specs.Operator.{Opcode, BlockType, Catch, MemArg, Immediates, NoImmediates, Block, TryTable, Index, Indices, BranchTable, Types, Heap, Cast, Memory, MemoryLane, Lane, I32, I64, F32, F64, Bytes, Operator}
 use Rattle.wasmprinter_spec.specs.Row.{Row, Shape, NoneShape, FenceShape, BlockShape, TryTableShape, IndexShape, DefaultIndexShape, PairShape, FieldShape, CountShape, CallShape, SegmentShape, CopyShape, BranchTableShape, SelectShape, HeapShape, RefShape, CastShape, MemoryShape, MemoryLaneShape, LaneShape, I32Shape, I64Shape, F32Shape, F64Shape, VectorShape, LanesShape}
 use Rattle.wasmprinter_spec.specs.Table.{table, first, has_opcode, by_opcode}
-use Rattle.wasmprinter_spec.specs.Instructions.{opcode_grammar, indices, cast_nulls, cast, catch, little_endian, float_bits, immediates, immediates_of_row, operator}
-use Rattle.wasmprinter_hidden.specs.Lengths.{unsigned_len, list_len, heap_type_len, opcode_len, immediates_len, reserved_len, operator_len}
-use Rattle.wasmprinter_hidden.proofs.Combinators.{Spelling, Measured, same, one, map_measured, byte_measured, byte_map_measured, with_len, fixed_measured, then_measured, then_by_measured, list_measured, succeed_measured, fail_measured, only_measured}
+use Rattle.wasmprinter_spec.specs.Instructions.{indices, cast_nulls, cast, catch, little_endian, float_bits, immediates, immediates_of_row, operator}
+use Rattle.wasmprinter_hidden.specs.Lengths.{immediates_len, reserved_len, operator_len}
+use Rattle.wasmprinter_hidden.proofs.Combinators.{Spelling, Measured, same, map_measured, byte_measured, byte_map_measured, with_len, fixed_measured, then_measured, then_by_measured, list_measured, succeed_measured, fail_measured, only_measured}
 use Rattle.wasmprinter_hidden.proofs.Names.{u32_measured, signed_measured}
 use Rattle.wasmprinter_hidden.proofs.ValTypes.{heap_measured, val_measured}
 use Rattle.wasmprinter_hidden.proofs.Operands.{opcode_measured, block_measured, catch_measured, mem_arg_measured}
@@ -26,7 +25,7 @@ is_fence FenceShape = true
 is_fence _ = false
 
 -- The length of immediates of this shape, with the reserved byte.
-abbrev pub shape_len : Shape → Immediates → ℕ
+abbrev shape_len : Shape → Immediates → ℕ
 shape_len s i = cond (is_fence s) 1 0 + immediates_len i
 
 -- Two indices.
@@ -34,6 +33,7 @@ indices_measured : Measured same indices.spells immediates_len
 indices_measured =
     map_measured (λ (x : ℕ × ℕ). Indices x.0 x.1) (λ x. refl) (λ x y e. ap (λ (z : ℕ × ℕ). Indices z.0 z.1) e) (then_measured u32_measured u32_measured)
 
+-- The cast of these types.
 abbrev cast_of_parts : (Bool × Bool) × (ℕ × (HeapType × HeapType)) → Immediates
 cast_of_parts x = Cast x.1.0 (ref_type x.0.0 x.1.1.0) (ref_type x.0.1 x.1.1.1)
 
@@ -50,7 +50,8 @@ float_measured n = map_measured little_endian (λ b. refl) (λ x y e. ap little_
 plain_measured : {S : Spelling Immediates} → Measured same S immediates_len → Measured same S (λ i. 0 + immediates_len i)
 plain_measured m = with_len (λ i. 0 + immediates_len i) (λ i. omega arith) m
 
-pub immediates_measured : (s : Shape) → Measured same (immediates s).spells (shape_len s)
+-- A line for each shape.
+immediates_measured : (s : Shape) → Measured same (immediates s).spells (shape_len s)
 immediates_measured NoneShape = succeed_measured NoImmediates refl
 immediates_measured FenceShape = map_measured (λ b. NoImmediates) (λ b. refl) (λ x y e. refl) (only_measured 0x00)
 immediates_measured BlockShape = map_measured Block (λ t. omega arith) (λ x y e. ap Block e) block_measured
@@ -92,6 +93,7 @@ agrees true b = b
 agrees false true = false
 agrees false false = true
 
+-- Tests that agree are equal.
 agrees-true : (a b : Bool) → agrees a b ≡ true → a ≡ b
 agrees-true true b e = sym e
 agrees-true false true e = absurd cc
@@ -101,10 +103,12 @@ agrees-true false false e = refl
 abbrev fits_fence : Row → Bool
 fits_fence r = agrees (is_fence r.shape) ((r.prefix == 0xfe) && (r.number == 3))
 
+-- Each row fits.
 abbrev all_fit : List Row → Bool
 all_fit [] = true
 all_fit (r ∷ rs) = fits_fence r && all_fit rs
 
+-- By computation over the table.
 table_fits : all_fit table ≡ true
 unfolding table
 table_fits = refl
@@ -121,7 +125,8 @@ row_found o (x ∷ rs) r f e =
       | inr (other, later) ↦ row_found o rs r fit.1 later
     ]
 
-reserved_is : (o : Opcode) (r : Row) → by_opcode o ≡ Some r → reserved_len o ≡ cond (is_fence r.shape) 1 0
+-- The reserved byte of an opcode that the table lists, by the shape of its row.
+pub reserved_is : (o : Opcode) (r : Row) → by_opcode o ≡ Some r → reserved_len o ≡ cond (is_fence r.shape) 1 0
 reserved_is o r e =
     let (has, fits) = row_found o table r table_fits e in
     let (prefix, number) = and_parts (eqb r.prefix o.prefix) (eqb r.number o.number) has in
@@ -137,11 +142,13 @@ reserved_is o r e =
 abbrev rest_len : Opcode → Immediates → ℕ
 rest_len o i = reserved_len o + immediates_len i
 
+-- The immediates after an opcode, by the row of the opcode.
 row_measured : (o : Opcode) (row : Option Row) → by_opcode o ≡ row → Measured same (immediates_of_row row).spells (rest_len o)
 row_measured o None e = fail_measured
 row_measured o (Some r) e =
     with_len (rest_len o) (λ i. ap (λ (n : ℕ). n + immediates_len i) (reserved_is o r e)) (immediates_measured r.shape)
 
+-- The operator with this opcode and these immediates.
 abbrev operator_of_parts : Opcode × Immediates → Operator
 operator_of_parts x = record { opcode = x.0; immediates = x.1 }
 

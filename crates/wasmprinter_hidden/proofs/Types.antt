@@ -1,10 +1,10 @@
 -- The lengths of the shortest encodings of composite types, subtypes and groups (section 5.3 of the standard).
-use Rattle.std.specs.Prelude.{◌≡◌, ℕ, List, [], ◌∷◌, ◌+◌, ◌-◌, ◌<◌, ◌≤◌, ◌⊎◌, length, nat_lt, Bool, true, false, ◌&&◌, ◌==◌, is_some, Option, Some, None, refl}
+use Rattle.std.specs.Prelude.{◌≡◌, ℕ, List, [], ◌∷◌, ◌+◌, ◌<◌, ◌≤◌, ◌⊎◌, length, nat_lt, Bool, true, false, ◌&&◌, ◌==◌, is_some, Option, Some, None, refl}
 use Rattle.std.proofs.Common.{sym, ap, subst, ◌∙◌, arith, inl, inr, eqb, ltb}
 use Rattle.std.proofs.lemmas.Bool.{and_parts, eqb-true, ltb-true, ne_eqb}
-use Rattle.wasmprinter_spec.specs.Grammar.{Grammar, byte, seq, try_map, map_value, fail, choose, some_is}
+use Rattle.wasmprinter_spec.specs.Grammar.{byte, seq, try_map, map_value, fail, some_is}
 use Rattle.wasmprinter_spec.specs.Name.{u32, vec}
-use Rattle.wasmprinter_spec.specs.Types.{ValType, StorageType, Val, I8, I16, FieldType, field_type, FuncType, CompositeType, FuncComposite, ArrayComposite, StructComposite, SubType, sub_type, final_type}
+use Rattle.wasmprinter_spec.specs.Types.{ValType, StorageType, Val, I8, I16, field_type, FuncType, CompositeType, FuncComposite, ArrayComposite, StructComposite, SubType, sub_type, final_type}
 use Rattle.wasmprinter_spec.specs.Placed.{TypeGroup, type_group}
 use Rattle.wasmprinter_spec.specs.Binary.{AreBytes}
 use Rattle.wasmprinter_spec.specs.Binary.ValTypes.{lookup, value_if_any, val_type, val_type_after}
@@ -24,27 +24,33 @@ packed_rows = (0x78, I8) ∷ (0x77, I16) ∷ []
 abbrev packed_row : ℕ → StorageType → Bool
 packed_row b t = (nat_lt 0x76 b && nat_lt b 0x79) && (storage_type_len t == 1)
 
+-- What `packed_row` says.
 packed_row_parts : (b : ℕ) (t : StorageType) → packed_row b t ≡ true → (0x76 < b) × (b < 0x79) × (storage_type_len t ≡ 1)
 packed_row_parts b t e =
     let (bounds, len) = and_parts (ltb 0x76 b && ltb b 0x79) (eqb (storage_type_len t) 1) e in
     let (from, below) = and_parts (ltb 0x76 b) (ltb b 0x79) bounds in
     (ltb-true _ _ from, ltb-true _ _ below, eqb-true _ _ len)
 
+-- The byte of a packed type.
 packed_byte : (b : ℕ) (t : StorageType) → packed_type_of b ≡ Some t → (0x76 < b) × (b < 0x79) × (storage_type_len t ≡ 1)
 packed_byte b t e = packed_row_parts b t (found packed_row packed_rows b t refl e)
 
+-- Other bytes are those of no packed type.
 no_packed_byte : (b : ℕ) → (b < 0x75) ⊎ (0x7a < b) → is_some (packed_type_of b) ≡ false
 no_packed_byte b out =
     none_found packed_row packed_rows b refl (λ t e.
-      let (from, below, len) = packed_row_parts b t e in
-      elim out [ | inl low ↦ omega (arith, low, from) | inr high ↦ omega (arith, high, below) ])
+    let (from, below, len) = packed_row_parts b t e in
+    elim out [ inl low ↦ omega (arith, low, from) | inr high ↦ omega (arith, high, below) ])
 
+-- A storage type that is a packed type.
 abbrev Packed : ℕ → List ℕ → StorageType → Type 0
 Packed p t s = (try_map packed_type_of byte).spells p t s
 
+-- A storage type that is a value type.
 abbrev Unpacked : ℕ → List ℕ → StorageType → Type 0
 Unpacked p t s = (map_value Val val_type).spells p t s
 
+-- The encodings of storage types are these.
 storage_cases : (p : ℕ) (t : List ℕ) (a : StorageType) → storage_type.spells p t a → Either Packed Unpacked p t a
 storage_cases p t a s =
     let (b, u, joined, others) = after_parts storage_type_after p t a s in
@@ -72,7 +78,7 @@ unpacked_storage p t a (v, made, spelled) =
 
 storage_measured : Measured same storage_type.spells storage_type_len
 storage_measured =
-    same_measured (λ p t a s. elim s [ | inl x ↦ packed_storage p t a x | inr x ↦ unpacked_storage p t a x ]) storage_cases
+    same_measured (λ p t a s. elim s [ inl x ↦ packed_storage p t a x | inr x ↦ unpacked_storage p t a x ]) storage_cases
     (either_measured (try_map_measured packed_type_of (λ b t e. (packed_byte b t e).2) byte_measured)
     (map_measured Val (λ v. refl) (λ v w e. ap Val e) val_measured))
 
@@ -86,6 +92,7 @@ field_measured =
 
 -- ---- Composite types
 
+-- The function type with these parameters and results.
 abbrev func_type_of_lists : List ValType × List ValType → FuncType
 func_type_of_lists x = record { params = x.0; results = x.1 }
 
@@ -94,6 +101,7 @@ signature_measured =
     map_measured func_type_of_lists (λ x. refl) (λ x y e. ap func_type_of_lists e)
     (then_measured (list_measured val_type val_measured) (list_measured val_type val_measured))
 
+-- A composite type has at least the byte of its kind.
 composite_some : (t : CompositeType) → 1 ≤ composite_type_len t
 composite_some (FuncComposite t) = omega arith
 composite_some (ArrayComposite t) = omega arith
@@ -102,10 +110,10 @@ composite_some (StructComposite ts) = omega arith
 composite_measured : Measured same composite.spells composite_type_len
 composite_measured =
     after_measured composite_after composite_some (λ b.
-      choose_measured (b == 0x5e) _ _ (map_measured ArrayComposite (λ t. omega arith) (λ s t e. ap ArrayComposite e) field_measured)
-      (choose_measured (b == 0x5f) _ _
-      (map_measured StructComposite (λ ts. omega arith) (λ ss ts e. ap StructComposite e) (list_measured field field_measured))
-      (choose_measured (b == 0x60) _ _ (map_measured FuncComposite (λ t. omega arith) (λ s t e. ap FuncComposite e) signature_measured) fail_measured)))
+    choose_measured (b == 0x5e) _ _ (map_measured ArrayComposite (λ t. omega arith) (λ s t e. ap ArrayComposite e) field_measured)
+    (choose_measured (b == 0x5f) _ _
+    (map_measured StructComposite (λ ts. omega arith) (λ ss ts e. ap StructComposite e) (list_measured field field_measured))
+    (choose_measured (b == 0x60) _ _ (map_measured FuncComposite (λ t. omega arith) (λ s t e. ap FuncComposite e) signature_measured) fail_measured)))
 
 -- The first byte of a composite type.
 composite_first : (b p : ℕ) (u : List ℕ) (c : CompositeType) → (composite_after b).spells p u c → 0x5d < b
@@ -129,6 +137,7 @@ composite_first b p u c s =
 abbrev Parts : ℕ → List ℕ → List ℕ × CompositeType → Type 0
 Parts p t x = (seq (vec u32) (λ _. composite)).spells p t x
 
+-- The length of supertypes and a composite type.
 abbrev parts_len : List ℕ × CompositeType → ℕ
 parts_len x = list_len unsigned_len x.0 + composite_type_len x.1
 
@@ -156,9 +165,11 @@ with_supertypes (x ∷ xs) c = Some (sub_type true (x ∷ xs) c)
 abbrev Derived : ℕ → List ℕ → SubType → Type 0
 Derived p t a = Under (λ x. with_supertypes x.0 x.1) (Led 0x4f Parts) p t a
 
+-- The encodings of subtypes that have no shorter one of another form.
 abbrev ShortSubType : ℕ → List ℕ → SubType → Type 0
 ShortSubType p t a = Either Alone (Either Open Derived) p t a
 
+-- What `with_supertypes` says.
 derived_parts : (xs : List ℕ) (c : CompositeType) (t : SubType) → with_supertypes xs c ≡ Some t →
     (sub_type true xs c ≡ t) × (sub_type_len t ≡ 1 + parts_len (xs, c))
 derived_parts [] c t e = absurd cc
@@ -176,6 +187,7 @@ short_sub_type_measured =
     (try_map_measured (λ (x : List ℕ × CompositeType). with_supertypes x.0 x.1) (λ x t e. (derived_parts x.0 x.1 t e).1)
     (led_measured 0x4f parts_measured)))
 
+-- The encodings of subtypes are these.
 sub_type_cases : (p : ℕ) (t : List ℕ) (a : SubType) → subtype.spells p t a → Either Alone (Either Open Final) p t a
 sub_type_cases p t a s =
     let (b, u, joined, others) = after_parts sub_type_after p t a s in
@@ -189,6 +201,7 @@ sub_type_cases p t a s =
           ]
     ]
 
+-- These encodings are encodings of subtypes.
 alone_sub_type : (p : ℕ) (t : List ℕ) (a : SubType) → Alone p t a → subtype.spells p t a
 alone_sub_type p t a (c, made, spelled) =
     let (b, u, joined, others) = after_parts composite_after p t c spelled in
@@ -252,9 +265,11 @@ Explicit p t g = Under (λ ts. Some (type_group true ts)) (Led 0x4e (vec subtype
 abbrev group_of_one : SubType → TypeGroup
 group_of_one t = type_group false (t ∷ [])
 
+-- A group that is one subtype by itself.
 abbrev Single : ℕ → List ℕ → TypeGroup → Type 0
 Single p t g = (map_value group_of_one subtype).spells p t g
 
+-- The encodings of groups are these.
 group_cases : (p : ℕ) (t : List ℕ) (g : TypeGroup) → group.spells p t g → Either Explicit Single p t g
 group_cases p t g s =
     let (b, u, joined, others) = after_parts group_after p t g s in
@@ -278,7 +293,7 @@ single_group p t g (a, made, spelled) =
 
 pub group_measured : Measured same group.spells group_len
 group_measured =
-    same_measured (λ p t g s. elim s [ | inl x ↦ explicit_group p t g x | inr x ↦ single_group p t g x ]) group_cases
+    same_measured (λ p t g s. elim s [ inl x ↦ explicit_group p t g x | inr x ↦ single_group p t g x ]) group_cases
     (either_measured
     (map_measured (type_group true) (λ ts. refl) (λ ss ts e. ap (type_group true) e) (led_measured 0x4e (list_measured subtype sub_type_measured)))
     (map_measured group_of_one (λ t. omega arith) (λ s t e. ap group_of_one e) sub_type_measured))

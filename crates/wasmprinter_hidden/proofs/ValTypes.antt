@@ -1,15 +1,15 @@
 -- The lengths of the shortest encodings of heap types, reference types and value types (section 5.3 of the standard).
-use Rattle.std.specs.Prelude.{◌≡◌, ℕ, ℤ, pos, negsuc, List, [], ◌∷◌, ◌+◌, ◌<◌, ◌≤◌, ◌⊎◌, length, nat_lt, Bool, true, false, ◌&&◌, ◌||◌, ◌==◌, is_some, Option, Some, None, refl}
+use Rattle.std.specs.Prelude.{◌≡◌, ℕ, ℤ, List, [], ◌∷◌, ◌+◌, ◌<◌, ◌≤◌, ◌⊎◌, length, nat_lt, Bool, true, false, ◌&&◌, ◌||◌, ◌==◌, is_some, Option, Some, None, refl}
 use Rattle.std.proofs.Common.{sym, ap, subst, ◌∙◌, arith, inl, inr, eqb, ltb}
 use Rattle.std.proofs.lemmas.Bool.{and_parts, eqb-true, ltb-true, false_from_ne_true, ne_eqb, or_left, or_right, or_from}
-use Rattle.wasmprinter_spec.specs.Grammar.{Grammar, byte, try_map, map_value, succeed, fail, choose, some_is, ◌>>=◌, bind_some}
+use Rattle.wasmprinter_spec.specs.Grammar.{Grammar, byte, try_map, map_value, choose, some_is, ◌>>=◌, bind_some}
 use Rattle.wasmprinter_spec.specs.Choices.{cond_cases}
 use Rattle.wasmprinter_spec.specs.Leb.{IsSigned}
 use Rattle.wasmprinter_spec.specs.Types.{HeapType, Exn, Array, Struct, I31, Eq, Any, Extern, Func, NoAny, NoExtern, NoFunc, NoExn, Index, RefType, ref_type, ValType, I32, I64, F32, F64, V128, Ref}
 use Rattle.wasmprinter_spec.specs.Binary.{AreBytes}
-use Rattle.wasmprinter_spec.specs.Binary.ValTypes.{lookup, number_type_of, abstract_heap_of, non_negative, signed_index, value_if_any, heap_type_by, heap_type, ref_type_after, reference_type, val_type_after, val_type, begins_val_type}
-use Rattle.wasmprinter_hidden.specs.Lengths.{signed_len, heap_type_len, ref_type_parts_len, ref_type_len, val_type_len}
-use Rattle.wasmprinter_hidden.proofs.Combinators.{Measured, same, one, Under, Either, HasWithin, Led, map_measured, try_map_measured, byte_measured, either_measured, covered_measured, same_measured, led_measured, after_parts, after_joined, choose_cases, choose_first, choose_second}
+use Rattle.wasmprinter_spec.specs.Binary.ValTypes.{lookup, number_type_of, abstract_heap_of, non_negative, signed_index, value_if_any, heap_type, ref_type_after, reference_type, val_type_after, val_type, begins_val_type}
+use Rattle.wasmprinter_hidden.specs.Lengths.{heap_type_len, ref_type_parts_len, ref_type_len, val_type_len}
+use Rattle.wasmprinter_hidden.proofs.Combinators.{Measured, same, Under, Either, HasWithin, Led, map_measured, try_map_measured, byte_measured, either_measured, covered_measured, same_measured, led_measured, after_parts, after_joined, choose_cases, choose_first, choose_second}
 use Rattle.wasmprinter_hidden.proofs.Names.{signed_index_measured}
 
 -- ---- Values of bytes
@@ -32,7 +32,7 @@ found {A = A} f (row ∷ rows) b a all e =
     ]
 
 -- The value, where there is one.
-pub some_value : {A : Type 0} (o : Option A) → is_some o ≡ true → (a : A) × (o ≡ Some a)
+some_value : {A : Type 0} (o : Option A) → is_some o ≡ true → (a : A) × (o ≡ Some a)
 some_value (Some a) e = (a, refl)
 some_value None e = absurd cc
 
@@ -47,6 +47,7 @@ pub any_parts : {A : Type 0} (o : Option A) (p : ℕ) (t : List ℕ) (a : A) →
 any_parts (Some c) p t a s = (ap Some (sym s.1), s.0)
 any_parts None p t a s = absurd s
 
+-- The empty byte string encodes the value, if there is one.
 pub any_joined : {A : Type 0} (o : Option A) (p : ℕ) (a : A) → o ≡ Some a → (value_if_any o).spells p [] a
 any_joined (Some c) p a e = (refl, sym (some_is c a e))
 any_joined None p a e = absurd cc
@@ -63,12 +64,13 @@ heap_rows =
 abbrev heap_row : ℕ → HeapType → Bool
 heap_row b h = (nat_lt 0x68 b && nat_lt b 0x75) && ((heap_type_len h == 1) && (ref_type_parts_len true h == 1))
 
-pub record IsHeapByte (b : ℕ) (h : HeapType) : Type 0 where
+record IsHeapByte (b : ℕ) (h : HeapType) : Type 0 where
   pub from : 0x68 < b
   pub below : b < 0x75
   pub len : heap_type_len h ≡ 1
   pub ref_len : ref_type_parts_len true h ≡ 1
 
+-- What `heap_row` says.
 heap_row_parts : (b : ℕ) (h : HeapType) → heap_row b h ≡ true → IsHeapByte b h
 heap_row_parts b h e =
     let (bounds, lens) = and_parts (ltb 0x68 b && ltb b 0x75) (eqb (heap_type_len h) 1 && eqb (ref_type_parts_len true h) 1) e in
@@ -76,15 +78,16 @@ heap_row_parts b h e =
     let (len, ref_len) = and_parts (eqb (heap_type_len h) 1) (eqb (ref_type_parts_len true h) 1) lens in
     record { from = ltb-true _ _ from; below = ltb-true _ _ below; len = eqb-true _ _ len; ref_len = eqb-true _ _ ref_len }
 
-pub heap_byte : (b : ℕ) (h : HeapType) → abstract_heap_of b ≡ Some h → IsHeapByte b h
+-- The byte of an abstract heap type.
+heap_byte : (b : ℕ) (h : HeapType) → abstract_heap_of b ≡ Some h → IsHeapByte b h
 heap_byte b h e = heap_row_parts b h (found heap_row heap_rows b h refl e)
 
 -- Other bytes are those of no abstract heap type.
-pub no_heap_byte : (b : ℕ) → (b < 0x69) ⊎ (0x74 < b) → is_some (abstract_heap_of b) ≡ false
+no_heap_byte : (b : ℕ) → (b < 0x69) ⊎ (0x74 < b) → is_some (abstract_heap_of b) ≡ false
 no_heap_byte b out =
     none_found heap_row heap_rows b refl (λ h e.
-      let is = heap_row_parts b h e in
-      elim out [ | inl low ↦ omega (arith, low, is.from) | inr high ↦ omega (arith, high, is.below) ])
+    let is = heap_row_parts b h e in
+    elim out [ inl low ↦ omega (arith, low, is.from) | inr high ↦ omega (arith, high, is.below) ])
 
 -- The first byte of a type index is that of no type.
 pub index_byte : (b : ℕ) (bs : List ℕ) (z : ℤ) (n : ℕ) → non_negative z ≡ Some n → IsSigned 33 (b ∷ bs) z → (b < 64) ⊎ (128 ≤ b)
@@ -96,14 +99,15 @@ index_byte b bs z n e s =
     ]
 
 -- A heap type that is abstract.
-abbrev pub Abstract : ℕ → List ℕ → HeapType → Type 0
+abbrev Abstract : ℕ → List ℕ → HeapType → Type 0
 Abstract p t h = (try_map abstract_heap_of byte).spells p t h
 
 -- A heap type that is a type index.
-abbrev pub Indexed : ℕ → List ℕ → HeapType → Type 0
+abbrev Indexed : ℕ → List ℕ → HeapType → Type 0
 Indexed p t h = (map_value Index signed_index).spells p t h
 
-pub heap_cases : (p : ℕ) (t : List ℕ) (h : HeapType) → heap_type.spells p t h → Either Abstract Indexed p t h
+-- The encodings of heap types are these.
+heap_cases : (p : ℕ) (t : List ℕ) (h : HeapType) → heap_type.spells p t h → Either Abstract Indexed p t h
 heap_cases p [] h s = absurd s
 heap_cases p (b ∷ bs) h s =
     elim (choose_cases (is_some (abstract_heap_of b)) (try_map abstract_heap_of byte) (map_value Index signed_index) p (b ∷ bs) h s) [
@@ -121,7 +125,7 @@ indexed_heap : (p : ℕ) (t : List ℕ) (h : HeapType) → Indexed p t h → hea
 indexed_heap p [] h (n, is, (z, positive, s)) = absurd s
 indexed_heap p (b ∷ bs) h (n, is, (z, positive, s)) =
     let out : (b < 0x69) ⊎ (0x74 < b) =
-    elim (index_byte b bs z n positive s) [ | inl low ↦ inl (omega (arith, low)) | inr high ↦ inr (omega (arith, high)) ] in
+    elim (index_byte b bs z n positive s) [ inl low ↦ inl (omega (arith, low)) | inr high ↦ inr (omega (arith, high)) ] in
     choose_second (is_some (abstract_heap_of b)) (try_map abstract_heap_of byte) (map_value Index signed_index) p (b ∷ bs) h
     (no_heap_byte b out) (n, is, (z, positive, s))
 
@@ -133,21 +137,21 @@ indexed_measured = map_measured Index (λ n. refl) (λ m n e. ap Index e) signed
 
 pub heap_measured : Measured same heap_type.spells heap_type_len
 heap_measured =
-    same_measured (λ p t h s. elim s [ | inl x ↦ abstract_heap p t h x | inr x ↦ indexed_heap p t h x ]) heap_cases
+    same_measured (λ p t h s. elim s [ inl x ↦ abstract_heap p t h x | inr x ↦ indexed_heap p t h x ]) heap_cases
     (either_measured abstract_measured indexed_measured)
 
 -- ---- Reference types
 
 -- A reference type that is not nullable: the byte 64, and a heap type.
-abbrev pub NotNull : ℕ → List ℕ → RefType → Type 0
+abbrev NotNull : ℕ → List ℕ → RefType → Type 0
 NotNull p t r = Under (λ h. Some (ref_type false h)) (Led 0x64 heap_type.spells) p t r
 
 -- A nullable reference type: the byte 63, and a heap type.
-abbrev pub Nullable : ℕ → List ℕ → RefType → Type 0
+abbrev Nullable : ℕ → List ℕ → RefType → Type 0
 Nullable p t r = Under (λ h. Some (ref_type true h)) (Led 0x63 heap_type.spells) p t r
 
 -- A nullable reference type with a type index: the byte 63, and the index.
-abbrev pub NullableIndex : ℕ → List ℕ → RefType → Type 0
+abbrev NullableIndex : ℕ → List ℕ → RefType → Type 0
 NullableIndex p t r = Under (λ n. Some (ref_type true (Index n))) (Led 0x63 signed_index.spells) p t r
 
 -- The nullable reference type of the byte.
@@ -155,10 +159,11 @@ abbrev nullable_of : ℕ → Option RefType
 nullable_of b = abstract_heap_of b >>= λ h. Some (ref_type true h)
 
 -- A nullable reference type that is one byte.
-abbrev pub NullableByte : ℕ → List ℕ → RefType → Type 0
+abbrev NullableByte : ℕ → List ℕ → RefType → Type 0
 NullableByte p t r = (try_map nullable_of byte).spells p t r
 
-pub ref_cases : (p : ℕ) (t : List ℕ) (r : RefType) → reference_type.spells p t r → Either NotNull (Either Nullable NullableByte) p t r
+-- The encodings of reference types are these.
+ref_cases : (p : ℕ) (t : List ℕ) (r : RefType) → reference_type.spells p t r → Either NotNull (Either Nullable NullableByte) p t r
 ref_cases p t r s =
     let (b, u, joined, others) = after_parts ref_type_after p t r s in
     let rest : Grammar RefType =
@@ -180,14 +185,17 @@ ref_cases p t r s =
 abbrev ShortRef : ℕ → List ℕ → RefType → Type 0
 ShortRef p t r = Either NotNull (Either NullableIndex NullableByte) p t r
 
+-- A reference type that is not nullable has one byte more than its heap type.
 not_null_len : (h : HeapType) → ref_type_len (ref_type false h) ≡ 1 + heap_type_len h
 not_null_len (Index n) = refl
 not_null_len _ = refl
 
+-- The heap type in the nullable reference type of a byte.
 nullable_byte : (b : ℕ) (r : RefType) → nullable_of b ≡ Some r → (h : HeapType) × (abstract_heap_of b ≡ Some h) × (ref_type true h ≡ r)
 nullable_byte b r e =
     let (h, is, made) = bind_some (abstract_heap_of b) (λ h. Some (ref_type true h)) r e in (h, is, some_is (ref_type true h) r made)
 
+-- The length of a nullable reference type that is one byte.
 nullable_byte_len : (b : ℕ) (r : RefType) → nullable_of b ≡ Some r → ref_type_len r ≡ 1
 nullable_byte_len b r e =
     let (h, is, made) = nullable_byte b r e in ap ref_type_len (sym made) ∙ (heap_byte b h is).ref_len
@@ -199,7 +207,7 @@ short_ref_measured =
     (map_measured (λ n. ref_type true (Index n)) (λ n. refl) (λ m n e. ap (λ (k : ℕ). ref_type true (Index k)) e) (led_measured 0x63 signed_index_measured))
     (try_map_measured nullable_of nullable_byte_len byte_measured))
 
--- A type after this byte, which is no prefix of a reference type.
+-- These encodings are encodings of reference types.
 not_null_ref : (p : ℕ) (t : List ℕ) (r : RefType) → NotNull p t r → reference_type.spells p t r
 not_null_ref p t r (h, made, (u, joined, spelled)) =
     subst (λ (x : List ℕ). reference_type.spells p x r) (sym joined) (after_joined ref_type_after p 0x64 u r (h, made, spelled))
@@ -274,36 +282,39 @@ number_rows = (0x7f, I32) ∷ (0x7e, I64) ∷ (0x7d, F32) ∷ (0x7c, F64) ∷ (0
 abbrev number_row : ℕ → ValType → Bool
 number_row b t = (nat_lt 0x7a b && nat_lt b 0x80) && (val_type_len t == 1)
 
-pub record IsNumberByte (b : ℕ) (t : ValType) : Type 0 where
+record IsNumberByte (b : ℕ) (t : ValType) : Type 0 where
   pub from : 0x7a < b
   pub below : b < 0x80
   pub len : val_type_len t ≡ 1
 
+-- What `number_row` says.
 number_row_parts : (b : ℕ) (t : ValType) → number_row b t ≡ true → IsNumberByte b t
 number_row_parts b t e =
     let (bounds, len) = and_parts (ltb 0x7a b && ltb b 0x80) (eqb (val_type_len t) 1) e in
     let (from, below) = and_parts (ltb 0x7a b) (ltb b 0x80) bounds in
     record { from = ltb-true _ _ from; below = ltb-true _ _ below; len = eqb-true _ _ len }
 
-pub number_byte : (b : ℕ) (t : ValType) → number_type_of b ≡ Some t → IsNumberByte b t
+-- The byte of a number type or of the vector type.
+number_byte : (b : ℕ) (t : ValType) → number_type_of b ≡ Some t → IsNumberByte b t
 number_byte b t e = number_row_parts b t (found number_row number_rows b t refl e)
 
-pub no_number_byte : (b : ℕ) → (b < 0x7b) ⊎ (0x7f < b) → is_some (number_type_of b) ≡ false
+-- Other bytes are those of no such type.
+no_number_byte : (b : ℕ) → (b < 0x7b) ⊎ (0x7f < b) → is_some (number_type_of b) ≡ false
 no_number_byte b out =
     none_found number_row number_rows b refl (λ t e.
-      let is = number_row_parts b t e in
-      elim out [ | inl low ↦ omega (arith, low, is.from) | inr high ↦ omega (arith, high, is.below) ])
+    let is = number_row_parts b t e in
+    elim out [ inl low ↦ omega (arith, low, is.from) | inr high ↦ omega (arith, high, is.below) ])
 
 -- A value type that is one byte, of no reference type.
-abbrev pub NumberType : ℕ → List ℕ → ValType → Type 0
+abbrev NumberType : ℕ → List ℕ → ValType → Type 0
 NumberType p t v = (try_map number_type_of byte).spells p t v
 
 -- A value type that is a reference type.
-abbrev pub Reference : ℕ → List ℕ → ValType → Type 0
+abbrev Reference : ℕ → List ℕ → ValType → Type 0
 Reference p t v = (map_value Ref reference_type).spells p t v
 
 -- A value type after its first byte b.
-pub val_after_cases : (b p : ℕ) (u : List ℕ) (v : ValType) → (val_type_after b).spells p u v →
+val_after_cases : (b p : ℕ) (u : List ℕ) (v : ValType) → (val_type_after b).spells p u v →
     ((number_type_of b ≡ Some v) × (u ≡ [])) ⊎ ((r : RefType) × (Ref r ≡ v) × (ref_type_after b).spells p u r)
 val_after_cases b p u v s =
     elim (choose_cases (is_some (number_type_of b)) (value_if_any (number_type_of b)) (map_value Ref (ref_type_after b)) p u v s) [
@@ -311,7 +322,8 @@ val_after_cases b p u v s =
       | inr (other, (r, made, spelled)) ↦ inr (r, some_is (Ref r) v made, spelled)
     ]
 
-pub val_cases : (p : ℕ) (t : List ℕ) (v : ValType) → val_type.spells p t v → Either NumberType Reference p t v
+-- The encodings of value types are these.
+val_cases : (p : ℕ) (t : List ℕ) (v : ValType) → val_type.spells p t v → Either NumberType Reference p t v
 val_cases p t v s =
     let (b, u, joined, others) = after_parts val_type_after p t v s in
     elim (val_after_cases b (p + 1) u v others) [
@@ -336,7 +348,7 @@ reference_val p t v (r, made, spelled) =
 
 pub val_measured : Measured same val_type.spells val_type_len
 val_measured =
-    same_measured (λ p t v s. elim s [ | inl x ↦ number_val p t v x | inr x ↦ reference_val p t v x ]) val_cases
+    same_measured (λ p t v s. elim s [ inl x ↦ number_val p t v x | inr x ↦ reference_val p t v x ]) val_cases
     (either_measured (try_map_measured number_type_of (λ b v e. (number_byte b v e).len) byte_measured)
     (map_measured Ref (λ r. refl) (λ q r e. ap Ref e) ref_measured))
 
@@ -348,7 +360,7 @@ val_first b p u v s =
       | inr (r, made, spelled) ↦ let (from, below) = ref_first b p u r spelled in (from, inl below)
     ]
 
--- A reference type or a value type begins with its first byte.
+-- A reference type begins with its first byte.
 ref_begins : (b p : ℕ) (u : List ℕ) (r : RefType) → (ref_type_after b).spells p u r →
     ((b == 0x64) || ((b == 0x63) || is_some (abstract_heap_of b))) ≡ true
 ref_begins b p u r s =
@@ -362,6 +374,7 @@ ref_begins b p u r s =
           ])
     ]
 
+-- A value type begins with its first byte.
 pub val_begins : (b p : ℕ) (u : List ℕ) (v : ValType) → (val_type_after b).spells p u v → begins_val_type b ≡ true
 val_begins b p u v s =
     elim (val_after_cases b p u v s) [
@@ -372,10 +385,10 @@ val_begins b p u v s =
 -- No value type begins with the first byte of a type index.
 pub index_begins_none : (b : ℕ) → (b < 64) ⊎ (128 ≤ b) → begins_val_type b ≡ false
 index_begins_none b out =
-    let number : (b < 0x7b) ⊎ (0x7f < b) = elim out [ | inl low ↦ inl (omega (arith, low)) | inr high ↦ inr high ] in
-    let heap : (b < 0x69) ⊎ (0x74 < b) = elim out [ | inl low ↦ inl (omega (arith, low)) | inr high ↦ inr (omega (arith, high)) ] in
+    let number : (b < 0x7b) ⊎ (0x7f < b) = elim out [ inl low ↦ inl (omega (arith, low)) | inr high ↦ inr high ] in
+    let heap : (b < 0x69) ⊎ (0x74 < b) = elim out [ inl low ↦ inl (omega (arith, low)) | inr high ↦ inr (omega (arith, high)) ] in
     let no_64 : (b == 0x64) ≡ false =
-    ne_eqb b 0x64 (λ z. elim out [ | inl low ↦ omega (arith, low, z) | inr high ↦ omega (arith, high, z) ]) in
+    ne_eqb b 0x64 (λ z. elim out [ inl low ↦ omega (arith, low, z) | inr high ↦ omega (arith, high, z) ]) in
     let no_63 : (b == 0x63) ≡ false =
-    ne_eqb b 0x63 (λ z. elim out [ | inl low ↦ omega (arith, low, z) | inr high ↦ omega (arith, high, z) ]) in
+    ne_eqb b 0x63 (λ z. elim out [ inl low ↦ omega (arith, low, z) | inr high ↦ omega (arith, high, z) ]) in
     or_from (is_some (number_type_of b)) _ (no_number_byte b number) (or_from (b == 0x64) _ no_64 (or_from (b == 0x63) _ no_63 (no_heap_byte b heap)))
