@@ -209,7 +209,7 @@ abbrev entry_view : ElementMode Operator × Items Operator → Element Operator
 entry_view x = element_of x.0 x.1
 
 -- The segment without the places of its operators, and whether the bytes name its table.
-abbrev entry_without_places : ElementEntry → Bool × Element Operator
+abbrev pub entry_without_places : ElementEntry → Bool × Element Operator
 entry_without_places e = (e.has_table_index, element_without_places e)
 
 -- A segment after its flags. `omits` says whether the type of its items is omitted.
@@ -259,7 +259,7 @@ element_after_measured n =
     (choose_measured (n == 7) _ _
     (segment_measured false false (succeed Declared) items_of_type declared_keeps declared_measured of_type_measured) fail_measured)))))))
 
--- The shortest encoding also names the table or not, as each encoding of the segment does.
+-- The shortest encoding has a table index if and only if the given encoding has one.
 pub element_entry_measured : Measured entry_without_places element.spells element_len
 element_entry_measured = number_after_measured element_after 8 (omega arith) element_below (λ e. omega arith) element_after_measured
 
