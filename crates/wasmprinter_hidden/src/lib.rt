@@ -6,4 +6,5 @@ mod excess;
 pub mod finding;
 mod list_lengths;
 mod operator_lengths;
+pub mod shortest;
 mod type_lengths;
