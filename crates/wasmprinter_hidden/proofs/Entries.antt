@@ -11,7 +11,7 @@ use Rattle.wasmprinter_spec.specs.Name.{u32}
 use Rattle.wasmprinter_spec.specs.Types.{RefType, ref_type, Func, TableType, GlobalType}
 use Rattle.wasmprinter_spec.specs.Operator.{Operator}
 use Rattle.wasmprinter_spec.specs.Placed.{Table, table_of, Global, global_of, ElementMode, Passive, Declared, Active, Items, Functions, Expressions, element_of, Element, ElementEntry, entry_of, DataMode, PassiveData, ActiveData, Data, data_of}
-use Rattle.wasmprinter_spec.specs.Module.{table_without_places, global_without_places, mode_without_places, items_without_places, element_without_places, data_without_places}
+use Rattle.wasmprinter_spec.specs.Module.{table_without_places, global_without_places, mode_without_places, items_without_places, data_without_places}
 use Rattle.wasmprinter_spec.specs.Instructions.{constant}
 use Rattle.wasmprinter_spec.specs.Binary.{AreBytes}
 use Rattle.wasmprinter_spec.specs.Binary.ValTypes.{ref_type_after}
@@ -22,7 +22,8 @@ use Rattle.wasmprinter_spec.specs.Binary.DataSegments.{byte_vec, data_mode}
 use Rattle.wasmprinter_spec.specs.Binary.DataSegments.{segment as data_segment}
 use Rattle.wasmprinter_hidden.specs.Lengths.{ref_type_len, table_len, global_len, element_mode_len, omits_type, element_items_len, element_len, data_len}
 use Rattle.wasmprinter_hidden.proofs.Numbers.{digits_some}
-use Rattle.wasmprinter_hidden.proofs.Combinators.{Measured, Under, Either, HasWithin, Led, Then, are_joined, split_bytes, joined_length, coarser, map_measured, map_measured_where, then_measured, then_by_measured, vec_measured, list_measured, succeed_measured, fail_measured, choose_measured, either_measured, covered_measured, same_measured, led_measured, only_measured, number_after_measured, after_parts, choose_cases, choose_first, choose_second}
+use Rattle.wasmprinter_hidden.specs.Shortest.{entry_without_places}
+use Rattle.wasmprinter_hidden.proofs.Combinators.{Measured, Under, Either, HasWithin, Led, Then, are_joined, split_bytes, joined_length, map_measured, map_measured_where, then_measured, then_by_measured, vec_measured, list_measured, succeed_measured, fail_measured, choose_measured, either_measured, covered_measured, same_measured, led_measured, only_measured, number_after_measured, after_parts, choose_cases, choose_first, choose_second}
 use Rattle.wasmprinter_hidden.proofs.Names.{u32_measured, byte_vec_measured}
 use Rattle.wasmprinter_hidden.proofs.ValTypes.{ref_first, ref_measured}
 use Rattle.wasmprinter_hidden.proofs.ExternTypes.{table_type_measured, global_type_measured}
@@ -208,10 +209,6 @@ entry_of_parts names x = entry_of names (element_of x.0 x.1)
 abbrev entry_view : ElementMode Operator × Items Operator → Element Operator
 entry_view x = element_of x.0 x.1
 
--- The segment without the places of its operators, and whether the bytes name its table.
-abbrev pub entry_without_places : ElementEntry → Bool × Element Operator
-entry_without_places e = (e.has_table_index, element_without_places e)
-
 -- A segment after its flags. `omits` says whether the type of its items is omitted.
 segment_measured : (names omits : Bool) (modes : Grammar (ElementMode (Placed Operator))) (contents : Grammar (Items (Placed Operator))) →
     ((p : ℕ) (t : List ℕ) (m : ElementMode (Placed Operator)) → modes.spells p t m → omits_type names m ≡ omits) →
@@ -260,11 +257,8 @@ element_after_measured n =
     (segment_measured false false (succeed Declared) items_of_type declared_keeps declared_measured of_type_measured) fail_measured)))))))
 
 -- The shortest encoding has a table index if and only if the given encoding has one.
-pub element_entry_measured : Measured entry_without_places element.spells element_len
-element_entry_measured = number_after_measured element_after 8 (omega arith) element_below (λ e. omega arith) element_after_measured
-
-pub element_measured : Measured element_without_places element.spells element_len
-element_measured = coarser (λ a b e. ap (λ (z : Bool × Element Operator). z.1) e) element_entry_measured
+pub element_measured : Measured entry_without_places element.spells element_len
+element_measured = number_after_measured element_after 8 (omega arith) element_below (λ e. omega arith) element_after_measured
 
 -- ---- Data segments
 

@@ -1,6 +1,7 @@
 -- The lengths of this crate are those of the shortest encodings.
 use Rattle.wasmprinter_hidden.specs.Shortest.{AreShortest}
-use Rattle.wasmprinter_hidden.proofs.Combinators.{is_shortest, is_shortest_but}
+use Rattle.wasmprinter_spec.specs.Name.{u32}
+use Rattle.wasmprinter_hidden.proofs.Combinators.{is_shortest, is_shortest_but, list_measured}
 use Rattle.wasmprinter_hidden.proofs.Names.{u32_measured, name_measured}
 use Rattle.wasmprinter_hidden.proofs.Types.{group_measured}
 use Rattle.wasmprinter_hidden.proofs.ExternTypes.{memory_type_measured, tag_measured, import_measured, export_measured, local_entry_measured}
@@ -12,6 +13,7 @@ pub are_shortest : AreShortest
 are_shortest = record {
   numbers = is_shortest u32_measured;
   names = is_shortest name_measured;
+  type_indices = is_shortest (list_measured u32 u32_measured);
   groups = is_shortest group_measured;
   memory_types = is_shortest memory_type_measured;
   tags = is_shortest tag_measured;
