@@ -62,9 +62,10 @@ pub(crate) fn add_code_section(
     for number in 0..count {
         let function = module.function(number);
         let body = function.body();
+        let place = body.place();
         let end = body.end() + 1;
-        size.len += unsigned_len(end.saturating_sub(body.place()));
-        findings.close(size, body.place())?;
+        size.len += unsigned_len(end.saturating_sub(place));
+        findings.close(size, place)?;
         add_body(findings, body)?;
         size = OpenPart {
             part: Part::BodySize,
