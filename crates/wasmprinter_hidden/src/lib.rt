@@ -8,6 +8,7 @@ mod excess;
 pub mod finding;
 mod findings;
 mod function_findings;
+mod hidden_bytes;
 mod list_lengths;
 mod operator_lengths;
 mod section_extents;

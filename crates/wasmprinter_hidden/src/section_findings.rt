@@ -46,7 +46,7 @@ pub(crate) fn add_contents(findings: &mut Findings, section: Extent, len: u64) -
 }
 
 /// Appends the findings in a section that is a list of entries.
-fn add_entries<T: Entry>(
+pub(crate) fn add_entries<T: Entry>(
     findings: &mut Findings,
     section: Extent,
     entries: &[T],
