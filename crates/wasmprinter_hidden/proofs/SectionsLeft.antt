@@ -1,8 +1,8 @@
 -- The sections of a module one after the other.
-use Rattle.std.specs.Prelude.{◌≡◌, ◌≢◌, ℕ, zero, suc, ◌+◌, ◌-◌, ◌<◌, ◌≤◌, ◌^◌, List, [], ◌∷◌, ◌++◌, Bool, true, false, ◌&&◌, drop, length, bytes_eq, Option, Some, None, if◌then◌else◌}
+use Rattle.std.specs.Prelude.{◌≡◌, ℕ, ◌+◌, ◌<◌, ◌≤◌, ◌^◌, List, [], ◌∷◌, ◌++◌, Bool, true, false, ◌&&◌, drop, length, bytes_eq, Option, Some, None, if◌then◌else◌}
 use Rattle.std.specs.List.{AllByRecursion, flat_map}
 use Rattle.std.proofs.Common.{refl, sym, ap, ◌∙◌, subst, arith, append_assoc, append-nil, zero-add, eqb}
-use Rattle.std.proofs.lemmas.List.{drop_at, length-append}
+use Rattle.std.proofs.lemmas.List.{drop_at}
 use Rattle.std.proofs.lemmas.Slice.Eq.{bytes_eq-Decides}
 use Rattle.wasmprinter_spec.specs.Apart.{Rises, locals_places, body_places, IsApart}
 use Rattle.wasmprinter_spec.specs.Binary.{Spells, preamble, preamble_bytes, bodies_in, datas_in, data_count_in, type_indices_in, counts_data, function_pairs, module_from}
@@ -24,21 +24,28 @@ use Rattle.wasmprinter_hidden.specs.declared.finding.Finding.{Finding}
 raw : (p : ℕ) (text rest : List ℕ) (s : Section) → section.spells p text s →
     (id contents : ℕ) × IsSection (input p (text ++ rest)) (input (p + length text) rest) id contents
 raw p text rest s (kx, is_s, (t, u, joined, (id, of_kind, is_id), (y, is_x, (v, w, split, size, (len, content))))) =
-    let contents : ℕ = p + length t + length v in
-    (id, contents, (w, record {
-      text = text;
-      parts = refl;
-      ends = refl;
-      spelled = (t, u, joined, is_id, ((y.0, record { place = contents; value = w }), refl, (v, w, split, size, (refl, (len, refl)))));
-    }))
+    let contents : ℕ = p + length t + length v in (
+      id,
+      contents,
+      (
+        w,
+        record {
+          text = text;
+          parts = refl;
+          ends = refl;
+          spelled = (t, u, joined, is_id, ((y.0, record { place = contents; value = w }), refl, (v, w, split, size, (refl, (len, refl)))));
+        },
+      ),
+    )
 
 extents_of : (ss : List Section) (p : ℕ) (text : List ℕ) → Entries section p text ss → (xs : List Extent) × AreExtents (input p text) xs
 extents_of [] p text e = ([], subst (λ (t : List ℕ). AreExtents (input p t) []) (sym e) (none {place = p}))
 extents_of (s ∷ ss) p text (t, u, joined, takes, spelled, entries) =
     let (id, contents, is) = raw p t u s spelled in
-    let (xs, are) = extents_of ss (p + length t) u entries in
-    (extent p id contents (p + length t) ∷ xs,
-    subst (λ (bytes : List ℕ). AreExtents (input p bytes) (extent p id contents (p + length t) ∷ xs)) (sym joined) (next is are))
+    let (xs, are) = extents_of ss (p + length t) u entries in (
+      extent p id contents (p + length t) ∷ xs,
+      subst (λ (bytes : List ℕ). AreExtents (input p bytes) (extent p id contents (p + length t) ∷ xs)) (sym joined) (next is are),
+    )
 
 preamble_is : (text bytes : List ℕ) → preamble.spells 0 text bytes → text ≡ preamble_bytes
 preamble_is text bytes (a, e, (len, same)) =
@@ -104,7 +111,7 @@ in_next : (m : PlacedModule) (customs : List CustomEntry) (x : Extent) (xs : Lis
 in_next m customs x xs =
     let here : List Finding = in_section m (kind_of x.id) x in
     let by : (b : Bool) → here ++ (if b then in_first_name customs ++ in_sections m (drop 1 customs) xs else in_sections m customs xs)
-        ≡ here ++ ((if b then in_first_name customs else []) ++ in_sections m (if b then drop 1 customs else customs) xs) =
+    ≡ here ++ ((if b then in_first_name customs else []) ++ in_sections m (if b then drop 1 customs else customs) xs) =
     elim [ true ↦ refl | false ↦ refl ] in
     by (eqb x.id 0)
 

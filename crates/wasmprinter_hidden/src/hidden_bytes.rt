@@ -1,5 +1,6 @@
 //! Finding what the text of a module does not show.
-ghost use Rattle.std.specs.Prelude.{◌≡◌, ◌++◌, ◌<◌, ◌^◌, ◌⊎◌, ◌↔◌, drop, IfOk, IfErr, IsErrOf, IsOkUnless, OnOk};
+ghost use Rattle.std.specs.Prelude.{◌≡◌, ◌++◌, ◌<◌, ◌^◌, ◌⊎◌, ◌↔◌, drop, IfOk, IfErr, IsErrOf};
+ghost use Rattle.std.specs.Prelude.{IsOkUnless, OnOk};
 ghost use Rattle.std.specs.List.{AllByRecursion};
 ghost use Rattle.wasmprinter_spec.specs.Binary.{IsComponent, Spells};
 ghost use Rattle.wasmprinter_spec.specs.Limits.{IsWithinLimits};
@@ -18,8 +19,8 @@ use crate::function_findings::{add_code_section, add_function_section};
 use crate::section_extents::Extent;
 use crate::section_findings::{add_contents, add_entries, add_size};
 use crate::section_ids::{
-    CODE, CUSTOM, DATA, DATA_COUNT, ELEMENT, EXPORT, FUNCTION, GLOBAL, IMPORT, MEMORY, START, TABLE,
-    TAG, TYPE,
+    CODE, CUSTOM, DATA, DATA_COUNT, ELEMENT, EXPORT, FUNCTION, GLOBAL, IMPORT, MEMORY, START,
+    TABLE, TAG, TYPE,
 };
 use std::alloc::{AllocError, Global};
 use wasmprinter_bytes::Error;
@@ -49,7 +50,8 @@ fn add_section(
     module: &Module<'_>,
 ) -> Result<(), AllocError>
     requires { AllByRecursion (λ f. body_end f < 2 ^ 64) «module».now.functions }
-    ensures { OnOk result (findings.new ≡ findings.old ++ in_section «module».now (kind_of section.id) section) }
+    ensures { OnOk result (findings.new
+        ≡ findings.old ++ in_section «module».now (kind_of section.id) section) }
 {
     match section.id {
         CUSTOM => add_size(findings, section),
@@ -89,8 +91,9 @@ fn add_name(
     customs: &[CustomEntry<'_>],
     before: usize,
 ) -> Result<usize, AllocError>
-    ensures { IfOk result (λ count. (findings.new ≡ findings.old ++ in_name section.id (drop before customs.now))
-        × (drop count customs.now ≡ customs_after section.id (drop before customs.now))) }
+    ensures { IfOk result (λ count. let left = drop before customs.now in
+        (findings.new ≡ findings.old ++ in_name section.id left)
+        × (drop count customs.now ≡ customs_after section.id left)) }
 {
     if section.id != CUSTOM {
         return Ok(before);
@@ -144,7 +147,8 @@ pub fn hidden(alloc: Global, wasm: &[u8]) -> Result<Vec<Finding>, Error>
     ensures found { IfOk result (λ list. AreHidden wasm.now list.items) }
     ensures refused { IfErr result (λ e. (e ≡ Error.Memory) ⊎ HasDecodingReason wasm.now e) }
     ensures component { IsErrOf result Error.Component ↔ IsComponent wasm.now }
-    ensures within { (m : PlacedModule) → Spells wasm.now m → IsWithinLimits m → IsOkUnless result Error.Memory }
+    ensures within { (m : PlacedModule) → Spells wasm.now m → IsWithinLimits m
+        → IsOkUnless result Error.Memory }
 {
     let module = decode(alloc, wasm)?;
     let findings = findings_in_sections(alloc, wasm, &module)?;

@@ -5,10 +5,12 @@ mod body_findings;
 mod entry_lengths;
 mod entry_places;
 mod excess;
-mod finding;
+pub mod finding;
 mod findings;
 mod function_findings;
 mod hidden_bytes;
+#[cfg(test)]
+mod hidden_tests;
 mod list_lengths;
 mod operator_lengths;
 mod section_extents;
@@ -16,5 +18,4 @@ mod section_findings;
 mod section_ids;
 mod type_lengths;
 
-pub use finding::{Finding, Part};
 pub use hidden_bytes::hidden;

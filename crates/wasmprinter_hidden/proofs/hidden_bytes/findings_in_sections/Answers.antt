@@ -1,7 +1,6 @@
-use Rattle.std.proofs.Common.{◌≡◌, ◌++◌, ◌<◌, ◌^◌, refl, drop, length, List, ap, subst, ◌∙◌, arith}
+use Rattle.std.proofs.Common.{refl, drop, ap, ◌∙◌, arith}
 use Rattle.std.proofs.lemmas.List.{take_rest}
 use Rattle.wasmprinter_spec.specs.Grammar.{input}
-use Rattle.wasmprinter_hidden.specs.Extents.{in_name, customs_after}
 use Rattle.wasmprinter_hidden.proofs.SectionsLeft.{ends_fit, sections_all, sections_more, sections_none}
 use Rattle.wasmprinter_hidden.proofs.hidden_bytes.findings_in_sections.Goals as goal
 
