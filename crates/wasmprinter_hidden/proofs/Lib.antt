@@ -6,3 +6,4 @@ mod OpenParts
 mod BodyParts
 mod SectionParts
 mod FunctionParts
+mod HintParts

@@ -8,6 +8,8 @@ mod excess;
 pub mod finding;
 mod findings;
 mod function_findings;
+mod hint_entries;
+mod hint_findings;
 mod list_lengths;
 mod operator_lengths;
 mod section_extents;
