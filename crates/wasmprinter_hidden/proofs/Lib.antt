@@ -6,15 +6,4 @@ mod Entries
 mod Expressions
 mod ExternTypes
 mod FunctionParts
-mod Laws
-mod Lists
-mod Names
-mod Numbers
-mod OpenParts
-mod Operands
-mod Operators
-mod SectionParts
-mod SectionsLeft
-mod SubTypes
-mod Types
-mod ValTypes
+mod HintParts

@@ -1,9 +1,8 @@
 -- Reading the extents of sections, and the names of custom sections.
 use Rattle.std.specs.Prelude.{ℕ, List, [], drop, ◌==◌, if◌then◌else◌, Option, Some}
 use Rattle.wasmprinter_spec.specs.Grammar.{Input, ◌>>=◌}
-use Rattle.wasmprinter_spec.specs.Placed.{CustomEntry}
-use Rattle.wasmprinter_hidden.specs.Hidden.{any_section, Extent, extent, in_first_name}
-use Rattle.wasmprinter_hidden.specs.declared.finding.Finding.{Finding}
+use Rattle.wasmprinter_hidden.specs.Findings.{any_section}
+use Rattle.wasmprinter_hidden.specs.Hidden.{Extent, extent}
 
 -- Reads a section of any kind: its extent, and the input after it.
 abbrev pub extent_at : Input → Option (Extent × Input)

@@ -8,9 +8,8 @@ mod excess;
 pub mod finding;
 mod findings;
 mod function_findings;
-mod hidden_bytes;
-#[cfg(test)]
-mod hidden_tests;
+mod hint_entries;
+mod hint_findings;
 mod list_lengths;
 mod operator_lengths;
 mod section_extents;
