@@ -7,3 +7,15 @@ mod Expressions
 mod ExternTypes
 mod FunctionParts
 mod HintParts
+mod Laws
+mod Lists
+mod Names
+mod Numbers
+mod OpenParts
+mod Operands
+mod Operators
+mod SectionParts
+mod SectionsLeft
+mod SubTypes
+mod Types
+mod ValTypes

@@ -19,7 +19,7 @@ loop-section-preserved c =
     let x = c.in-Ok.section in
     let named = rw c.customs.ensures at c.in_ok-customs.ensures in
     sections_more c.args.wasm.now m c.loop-section.cursor c.read.new.cursor (drop c.loop-section.customs m.customs) (drop c.in_ok-customs.customs m.customs)
-    c.loop-section.findings c.add_section.new.findings c.add_name.new.findings x c.in-Ok.ensures.reads.reads c.in_ok-add_section.ensures named.0 named.1 c.loop-section.invariant
+    c.loop-section.findings c.add_section.new.findings c.add_custom.new.findings x c.in-Ok.ensures.reads.reads c.in_ok-add_section.ensures named.0 named.1 c.loop-section.invariant
 
 pub returns : goal.returns
 returns c =
