@@ -1,10 +1,10 @@
--- Lemmas that the proofs of this crate share.
-mod Digits
-mod Lists
-mod SubTypes
-mod OpenParts
+-- Lemmas that the proofs of this crate share, and the laws on the shortest encodings.
 mod BodyParts
-mod SectionParts
+mod Combinators
+mod Digits
+mod Entries
+mod Expressions
+mod ExternTypes
 mod FunctionParts
 mod NameCounting
 mod FunctionCounting

@@ -19,6 +19,14 @@ open_part part place len = record { part = part; place = place; len = capped len
 abbrev pub lengths : {A : Type 0} → (A → ℕ) → (A → ℕ) → List A → List (Placed ℕ)
 lengths place len xs = map (λ x. record { place = place x; value = len x }) xs
 
+-- The places and lengths of groups of locals.
+abbrev pub lengths_of_groups : List (Placed LocalEntry) → List (Placed ℕ)
+lengths_of_groups es = lengths (λ e. e.place) (λ e. local_entry_len e.value) es
+
+-- The places and lengths of operators.
+abbrev pub lengths_of_operators : List (Placed Operator) → List (Placed ℕ)
+lengths_of_operators os = lengths (λ o. o.place) (λ o. operator_len o.value) os
+
 -- The findings in the part if it ends here.
 abbrev pub in_open : OpenPart → ℕ → List Finding
 in_open last end = if_longer last.part last.place end last.len

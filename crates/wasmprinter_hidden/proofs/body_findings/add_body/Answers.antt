@@ -1,12 +1,9 @@
-use Rattle.std.proofs.Common.{◌≡◌, ◌++◌, ℕ, length, List, ap, ◌∙◌, arith}
+use Rattle.std.proofs.Common.{◌≡◌, ◌++◌, ℕ, length, ap, ◌∙◌, arith}
 use Rattle.std.proofs.lemmas.Result.{on_ok_weaker}
-use Rattle.wasmprinter_spec.specs.Grammar.{Placed}
-use Rattle.wasmprinter_spec.specs.Placed.{LocalEntry}
 use Rattle.wasmprinter_hidden.specs.Lengths.{unsigned_len}
 use Rattle.wasmprinter_hidden.specs.OpenParts.{open_part, in_open}
-use Rattle.wasmprinter_hidden.specs.declared.finding.Part.TheVariants.{LocalCount, LocalGroup}
-use Rattle.wasmprinter_hidden.specs.declared.findings.OpenPart.{OpenPart}
-use Rattle.wasmprinter_hidden.proofs.BodyParts.{groups, body_read}
+use Rattle.wasmprinter_hidden.specs.declared.finding.Part.TheVariants.{LocalCount}
+use Rattle.wasmprinter_hidden.proofs.BodyParts.{body_read}
 use Rattle.wasmprinter_hidden.proofs.body_findings.add_body.Goals as goal
 
 pub returns : goal.returns

@@ -1,5 +1,5 @@
-use Rattle.std.proofs.Common.{◌≡◌, ◌≤◌, ℕ, arith, ap, sym, subst, ◌∙◌, length}
-use Rattle.wasmprinter_hidden.specs.Lengths.{unsigned_len, list_len}
+use Rattle.std.proofs.Common.{◌≤◌, ℕ, arith, ap, sym, subst, ◌∙◌}
+use Rattle.wasmprinter_hidden.specs.Lengths.{unsigned_len}
 use Rattle.wasmprinter_hidden.proofs.FunctionParts.{unsigned_len-few, indices_more, indices_none, indices_all}
 use Rattle.wasmprinter_hidden.proofs.function_findings.type_indices_len.Goals as goal
 
