@@ -7,3 +7,4 @@ mod BodyParts
 mod SectionParts
 mod FunctionParts
 mod SectionsLeft
+mod FindingsOnce

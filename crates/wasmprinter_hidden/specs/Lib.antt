@@ -4,3 +4,4 @@ pub mod Shortest
 pub mod Hidden
 pub mod OpenParts
 pub mod Extents
+pub mod HiddenOnce

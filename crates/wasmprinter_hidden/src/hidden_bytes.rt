@@ -10,6 +10,7 @@ ghost use Rattle.wasmprinter_decoder.specs.Decoding.{HasDecodingReason};
 ghost use Rattle.wasmprinter_hidden.specs.Lengths.{bytes_len};
 ghost use Rattle.wasmprinter_hidden.specs.OpenParts.{capped};
 ghost use Rattle.wasmprinter_hidden.specs.Hidden.{body_end, in_start_section, in_section, AreHidden};
+ghost use Rattle.wasmprinter_hidden.specs.HiddenOnce.{FindingsAreUnique, ModulesHaveFindings};
 ghost use Rattle.wasmprinter_hidden.specs.Extents.{in_name, customs_after};
 
 use crate::excess::unsigned_len;
@@ -123,18 +124,19 @@ fn findings_in_sections(
     ensures { IfOk result (AreHidden wasm.now) }
 {
     let mut findings = Findings::new(alloc);
-    let mut customs = 0;
+    let mut custom_count = 0;
     let mut cursor = Cursor::new(PREAMBLE_LEN as u64, &wasm[PREAMBLE_LEN..]);
+    // The bytes encode a module: reading fails only where they end.
     while let Ok(section) = Extent::read(&mut cursor) {
         add_section(&mut findings, section, module)?;
-        customs = add_name(&mut findings, section, module.customs(), customs)?;
+        custom_count = add_name(&mut findings, section, module.customs(), custom_count)?;
     }
     Ok(findings)
 }
 
-/// Returns what the text of a module does not show, in the order of the places. On `Ok`, the bytes encode a module, and
-/// the result lists each part of it that has more bytes than its shortest encoding, and each section without entries
-/// (`found`).
+/// Returns the parts of a module that its text does not show, in the order of their places. On `Ok`, the bytes encode a
+/// module, and the result lists each part of it that has more bytes than its shortest encoding, and each section without
+/// entries (`found`).
 ///
 /// # Errors
 ///
@@ -154,3 +156,10 @@ pub fn hidden(alloc: Global, wasm: &[u8]) -> Result<Vec<Finding>, Error>
     let findings = findings_in_sections(alloc, wasm, &module)?;
     Ok(findings.into_list())
 }
+
+/// States that bytes have at most one list of findings, and one if they encode a module. Has no code: these are laws over
+/// the definition of the list.
+pub fn findings_are_unique()
+    ensures unique { FindingsAreUnique }
+    ensures exists { ModulesHaveFindings }
+{}

@@ -18,4 +18,4 @@ mod section_findings;
 mod section_ids;
 mod type_lengths;
 
-pub use hidden_bytes::hidden;
+pub use hidden_bytes::{findings_are_unique, hidden};
