@@ -5,6 +5,7 @@ mod Digits
 mod Entries
 mod Expressions
 mod ExternTypes
+mod FindingsOnce
 mod FunctionCounting
 mod FunctionParts
 mod HintParts

@@ -4,6 +4,7 @@ pub mod Findings
 pub mod Hidden
 pub mod HiddenHints
 pub mod HiddenNames
+pub mod HiddenOnce
 pub mod Lengths
 pub mod NameCounts
 pub mod NameReadings

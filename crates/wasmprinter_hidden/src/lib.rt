@@ -26,4 +26,4 @@ mod section_ids;
 pub mod shortest;
 mod type_lengths;
 
-pub use hidden_bytes::hidden;
+pub use hidden_bytes::{findings_are_unique, hidden};
