@@ -117,4 +117,4 @@ pub one_named : (n : List ℕ) (customs : List CustomEntry) (i : ℕ) (c : Custo
 one_named n customs i c lt is named =
     ap (λ cs. is_none (last_named n None cs)) (drop_more customs i c lt ∙ ap (λ x. x ∷ drop (i + 1) customs) (sym is))
     ∙ still_named n (if bytes_eq c.section.value.name n then Some c.section.value else None) (drop (i + 1) customs)
-        (ap (λ b. is_none (if b then Some c.section.value else None)) named)
+    (ap (λ b. is_none (if b then Some c.section.value else None)) named)

@@ -29,10 +29,7 @@ fn add_hints(findings: &mut Findings, hints: &HintEntries<'_>) -> Result<(), All
 }
 
 /// Appends a finding for each hint of the entries.
-fn add_entries(
-    findings: &mut Findings,
-    entries: &[FunctionEntry<'_>],
-) -> Result<(), AllocError>
+fn add_entries(findings: &mut Findings, entries: &[FunctionEntry<'_>]) -> Result<(), AllocError>
     ensures { OnOk result (findings.new ≡ findings.old ++ map in_hint (hints_in entries.now)) }
 {
     for entry in entries {
