@@ -1,0 +1,58 @@
+//! What the text of a module does not show.
+
+/// A part of a module. A number is the id of a section (section 5.5, "Sections").
+#[derive(Clone, Copy, Debug, PartialEq, Eq)]
+pub enum Part {
+    /// A section without entries.
+    Section(u8),
+    /// The number that encodes the size of a section.
+    SectionSize(u8),
+    /// The number that encodes how many entries a section has. In the code section, it is one part with the size of the
+    /// first body.
+    Count(u8),
+    /// The contents of a section: of the function section, the start section or the data count section.
+    Contents(u8),
+    /// An entry of a section.
+    Entry(u8),
+    /// The length and the bytes of the name of a custom section.
+    CustomName,
+    /// The number that encodes the size of a body.
+    BodySize,
+    /// The number that encodes how many groups of locals a body has.
+    LocalCount,
+    /// A group of locals.
+    LocalGroup,
+    /// An instruction.
+    Instruction,
+    /// A subsection of a name section whose id is unknown: this id.
+    NameSubsection(u8),
+    /// The number that encodes the size of a subsection of a name section with this id.
+    NameSubsectionSize(u8),
+    /// The number that encodes how many names follow, or how many functions or types with names.
+    NameCount,
+    /// The index of a function or type, before names of its locals, labels or fields.
+    NameOwner,
+    /// A name with its index.
+    Name,
+    /// A name of something that the module does not have, with its index.
+    NameOfNothing,
+    /// Bytes of a name section that are not read.
+    UnreadNames,
+    /// A branch hint that no instruction has.
+    Hint,
+    /// The data of a section with branch hints that is malformed, or that a later section with branch hints replaces.
+    HintSection,
+}
+
+/// A part of a module that its text does not show.
+#[derive(Clone, Copy, Debug, PartialEq, Eq)]
+pub struct Finding {
+    /// The byte offset of the part from the start of the module.
+    pub place: u64,
+    /// The part.
+    pub part: Part,
+    /// The number of bytes that the shortest encoding of the part does not have. Of a section without entries, an unknown
+    /// subsection, a name of nothing and bytes that are not read, the number of all bytes; of a hint that no instruction
+    /// has, that of its shortest encoding.
+    pub extra: u64,
+}
