@@ -3,3 +3,6 @@
 
 mod excess;
 pub mod finding;
+mod hidden_bytes;
+
+pub use hidden_bytes::hidden;
