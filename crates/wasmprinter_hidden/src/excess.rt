@@ -1,6 +1,6 @@
 //! Comparing the number of bytes of an item with that of its shortest encoding.
 ghost use Rattle.std.specs.Prelude.{◌≡◌, ◌-◌};
-ghost use Rattle.wasmprinter_hidden.specs.Lengths.{unsigned_len};
+ghost use Rattle.wasmprinter_hidden.specs.Lengths.{unsigned_len, signed_len};
 
 /// The bytes of an item that are left when those that its shortest encoding needs are taken away.
 #[derive(Clone, Copy)]
@@ -43,4 +43,57 @@ pub(crate) fn unsigned_len(number: u64) -> u64
         len += 1;
     }
     len
+}
+
+/// Returns the number of bytes of the shortest encoding of a signed integer in LEB128. It has one bit more than the
+/// integer, or than its complement if it is negative.
+pub(crate) fn signed_len(number: i64) -> u64
+    ensures { result ≡ signed_len number }
+{
+    let magnitude = number.unsigned_abs();
+    if number < 0 {
+        unsigned_len(2 * (magnitude - 1))
+    } else {
+        unsigned_len(2 * magnitude)
+    }
+}
+
+impl Shortest for u32 {
+    ghost use Rattle.wasmprinter_hidden.specs.Lengths.{unsigned_len};
+
+    ghost len = { unsigned_len };
+
+    fn take_from(&self, excess: &mut Excess) {
+        excess.take(unsigned_len(u64::from(*self)));
+    }
+}
+
+impl Shortest for u64 {
+    ghost use Rattle.wasmprinter_hidden.specs.Lengths.{unsigned_len};
+
+    ghost len = { unsigned_len };
+
+    fn take_from(&self, excess: &mut Excess) {
+        excess.take(unsigned_len(*self));
+    }
+}
+
+impl Shortest for i32 {
+    ghost use Rattle.wasmprinter_hidden.specs.Lengths.{signed_len};
+
+    ghost len = { signed_len };
+
+    fn take_from(&self, excess: &mut Excess) {
+        excess.take(signed_len(i64::from(*self)));
+    }
+}
+
+impl Shortest for i64 {
+    ghost use Rattle.wasmprinter_hidden.specs.Lengths.{signed_len};
+
+    ghost len = { signed_len };
+
+    fn take_from(&self, excess: &mut Excess) {
+        excess.take(signed_len(*self));
+    }
 }
