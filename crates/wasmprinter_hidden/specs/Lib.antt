@@ -2,3 +2,5 @@
 pub mod Lengths
 pub mod Shortest
 pub mod Hidden
+pub mod OpenParts
+pub mod Extents
