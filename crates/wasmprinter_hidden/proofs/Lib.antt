@@ -1,9 +1,25 @@
--- Lemmas that the proofs of this crate share.
-mod Digits
-mod Lists
-mod SubTypes
-mod OpenParts
+-- Lemmas that the proofs of this crate share, and the laws on the shortest encodings.
 mod BodyParts
-mod SectionParts
+mod Combinators
+mod Digits
+mod Entries
+mod Expressions
+mod ExternTypes
+mod FindingsOnce
+mod FunctionCounting
 mod FunctionParts
+mod HintParts
+mod Laws
+mod Lists
+mod NameCounting
+mod NameReading
+mod Names
+mod Numbers
+mod OpenParts
+mod Operands
+mod Operators
+mod SectionParts
 mod SectionsLeft
+mod SubTypes
+mod Types
+mod ValTypes

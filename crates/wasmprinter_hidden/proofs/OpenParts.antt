@@ -3,7 +3,8 @@ use Rattle.std.proofs.Common.{◌≡◌, ℕ, ◌+◌, ◌-◌, ◌<◌, ◌≤�
 use Rattle.std.proofs.lemmas.Bool.{cases_lt, le-ltb, cond-false}
 use Rattle.std.proofs.lemmas.List.{at_drop_more, drop_all}
 use Rattle.wasmprinter_spec.specs.Grammar.{Placed}
-use Rattle.wasmprinter_hidden.specs.Hidden.{finding, if_longer, first_place, in_items}
+use Rattle.wasmprinter_hidden.specs.Findings.{finding, if_longer}
+use Rattle.wasmprinter_hidden.specs.Hidden.{first_place, in_items}
 use Rattle.wasmprinter_hidden.specs.OpenParts.{capped, open_part, lengths, in_open, in_run, HasRead}
 use Rattle.wasmprinter_hidden.specs.declared.finding.Part.{Part}
 use Rattle.wasmprinter_hidden.specs.declared.finding.Finding.{Finding}

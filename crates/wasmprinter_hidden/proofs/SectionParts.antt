@@ -8,7 +8,8 @@ use Rattle.wasmprinter_spec.specs.Grammar.{Placed}
 use Rattle.wasmprinter_spec.specs.Placed.{PlacedModule}
 use Rattle.wasmprinter_spec.specs.Sections.{kind_of}
 use Rattle.wasmprinter_hidden.specs.Lengths.{unsigned_len}
-use Rattle.wasmprinter_hidden.specs.Hidden.{Extent, if_longer, in_items, in_size, in_list, in_entries, in_section}
+use Rattle.wasmprinter_hidden.specs.Findings.{if_longer}
+use Rattle.wasmprinter_hidden.specs.Hidden.{Extent, in_items, in_size, in_list, in_entries, in_section}
 use Rattle.wasmprinter_hidden.specs.OpenParts.{lengths, in_open, HasRead}
 use Rattle.wasmprinter_hidden.specs.declared.finding.Part.TheVariants.{Count, Entry}
 use Rattle.wasmprinter_hidden.specs.declared.finding.Finding.{Finding}

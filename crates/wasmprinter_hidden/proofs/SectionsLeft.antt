@@ -14,8 +14,9 @@ use Rattle.wasmprinter_spec.specs.Repeated.{Entries}
 use Rattle.wasmprinter_spec.specs.Sections.{Section, section, kind_of, are_above}
 use Rattle.wasmprinter_laws.proofs.Lines.CodeSection.{apart}
 use Rattle.wasmprinter_laws.proofs.Lines.Indexes.{rises_each, rises_right}
-use Rattle.wasmprinter_hidden.specs.Extents.{extent_at, in_name, customs_after}
-use Rattle.wasmprinter_hidden.specs.Hidden.{any_section, Extent, extent, IsSection, AreExtents, none, next, HaveExtents, body_end, in_section, in_first_name, in_sections, AreHidden}
+use Rattle.wasmprinter_hidden.specs.Extents.{extent_at, in_custom, customs_after}
+use Rattle.wasmprinter_hidden.specs.Findings.{any_section}
+use Rattle.wasmprinter_hidden.specs.Hidden.{Extent, extent, IsSection, AreExtents, none, next, HaveExtents, body_end, in_section, in_first_custom, in_sections, AreHidden}
 use Rattle.wasmprinter_hidden.specs.declared.finding.Finding.{Finding}
 
 -- ---- A module is its preamble and sections
@@ -62,7 +63,7 @@ module_extents wasm m spells =
 -- ---- Reading them
 
 -- The section that is read is the first.
-first_read : (at after : Input) (x : Extent) (xs : List Extent) → extent_at at ≡ Some (x, after) → AreExtents at xs →
+pub first_read : (at after : Input) (x : Extent) (xs : List Extent) → extent_at at ≡ Some (x, after) → AreExtents at xs →
     (rest : List Extent) × (xs ≡ x ∷ rest) × AreExtents after rest
 first_read _ after x _ e (none {place = p}) = absurd cc
 first_read at after x _ e (next {after = mid} {id = id} {contents = contents} {rest = rest} s h) =
@@ -81,6 +82,10 @@ none_read at _ e (next {after = mid} {id = id} {contents = contents} {rest = res
     any_section.complete at ((id, record { place = contents; value = s.0 }), mid) s.1 in
     let known : extent_at at ≡ Some (extent at.place id contents mid.place, mid) = rw read refl in
     absurd cc
+
+-- No section is left where the bytes end.
+pub no_more : (place : ℕ) (xs : List Extent) → AreExtents (input place []) xs → xs ≡ []
+no_more place xs h = none_read (input place []) xs refl h
 
 -- The findings so far, with those in the sections that are left, are all findings.
 pub record HasSectionsLeft (wasm : List ℕ) (m : PlacedModule) (at : Input) (customs : List CustomEntry) (found : List Finding) : Type 0 where
@@ -105,31 +110,31 @@ sections_all wasm m at customs found spells is_at is_customs is_found =
       };
     }
 
--- The findings in a section, in its name, and in the sections after it.
+-- The findings in a section, in it as a custom section, and in the sections after it.
 in_next : (m : PlacedModule) (customs : List CustomEntry) (x : Extent) (xs : List Extent) →
-    in_sections m customs (x ∷ xs) ≡ in_section m (kind_of x.id) x ++ (in_name x.id customs ++ in_sections m (customs_after x.id customs) xs)
+    in_sections m customs (x ∷ xs) ≡ in_section m (kind_of x.id) x ++ (in_custom m x.id customs ++ in_sections m (customs_after x.id customs) xs)
 in_next m customs x xs =
     let here : List Finding = in_section m (kind_of x.id) x in
-    let by : (b : Bool) → here ++ (if b then in_first_name customs ++ in_sections m (drop 1 customs) xs else in_sections m customs xs)
-    ≡ here ++ ((if b then in_first_name customs else []) ++ in_sections m (if b then drop 1 customs else customs) xs) =
+    let by : (b : Bool) → here ++ (if b then in_first_custom m customs ++ in_sections m (drop 1 customs) xs else in_sections m customs xs)
+    ≡ here ++ ((if b then in_first_custom m customs else []) ++ in_sections m (if b then drop 1 customs else customs) xs) =
     elim [ true ↦ refl | false ↦ refl ] in
     by (eqb x.id 0)
 
 -- A section is read.
 pub sections_more : (wasm : List ℕ) (m : PlacedModule) (at after : Input) (customs others : List CustomEntry) (found mid more : List Finding) (x : Extent) →
-    extent_at at ≡ Some (x, after) → mid ≡ found ++ in_section m (kind_of x.id) x → more ≡ mid ++ in_name x.id customs →
+    extent_at at ≡ Some (x, after) → mid ≡ found ++ in_section m (kind_of x.id) x → more ≡ mid ++ in_custom m x.id customs →
     others ≡ customs_after x.id customs → HasSectionsLeft wasm m at customs found → HasSectionsLeft wasm m after others more
 sections_more wasm m at after customs others found mid more x read is_mid is_more are_others h =
     let (rest, are_first, are) = first_read at after x h.left read h.are in
     let here : List Finding = in_section m (kind_of x.id) x in
-    let name : List Finding = in_name x.id customs in
+    let custom : List Finding = in_custom m x.id customs in
     let later : List Finding = in_sections m (customs_after x.id customs) rest in
     let same : found ++ in_sections m customs h.left ≡ more ++ in_sections m others rest =
     ap (λ (xs : List Extent). found ++ in_sections m customs xs) are_first
     ∙ ap (λ (f : List Finding). found ++ f) (in_next m customs x rest)
-    ∙ sym (append_assoc found here (name ++ later))
-    ∙ ap (λ (f : List Finding). f ++ (name ++ later)) (sym is_mid)
-    ∙ sym (append_assoc mid name later)
+    ∙ sym (append_assoc found here (custom ++ later))
+    ∙ ap (λ (f : List Finding). f ++ (custom ++ later)) (sym is_mid)
+    ∙ sym (append_assoc mid custom later)
     ∙ ap (λ (f : List Finding). f ++ later) (sym is_more)
     ∙ ap (λ (cs : List CustomEntry). more ++ in_sections m cs rest) (sym are_others) in
     record { left = rest; are = are; hidden = subst (AreHidden wasm) same h.hidden }

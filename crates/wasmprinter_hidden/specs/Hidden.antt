@@ -1,22 +1,23 @@
--- What the text of a module does not show: bytes that a shorter encoding of the same module does not have, and sections
--- without entries. What is hidden inside of custom sections is not among it, except in the length of their names.
-use Rattle.std.specs.Prelude.{◌≡◌, ℕ, ◌+◌, ◌-◌, List, [], ◌∷◌, ◌++◌, length, map, drop, nat_lt, ◌==◌, if◌then◌else◌, Option, Some, None}
+-- What the text of a module does not show: bytes that a shorter encoding of the same module does not have, sections without
+-- entries, names of nothing, and hints of no operator. How locals are grouped, names that a later name replaces, and longer
+-- numbers in the data of other custom sections than `name` are not among it.
+use Rattle.std.specs.Prelude.{◌≡◌, ℕ, ◌+◌, ◌-◌, List, [], ◌∷◌, ◌++◌, length, map, drop, nat_lt, ◌==◌, if◌then◌else◌, codes, bytes_eq, Option, Some, None}
 use Rattle.wasmprinter_spec.specs.Grammar.{Input, input, Spans, Grammar, Placed, byte, seq, map_value, value_with_place}
 use Rattle.wasmprinter_spec.specs.Sized.{take_bytes}
 use Rattle.wasmprinter_spec.specs.Name.{u32}
-use Rattle.wasmprinter_spec.specs.Placed.{PlacedModule, PlacedFunction, Body, CustomEntry}
+use Rattle.wasmprinter_spec.specs.Placed.{PlacedModule, PlacedFunction, Body, Custom, CustomEntry}
 use Rattle.wasmprinter_spec.specs.Binary.{Spells, preamble_bytes}
 use Rattle.wasmprinter_spec.specs.Sections.{kind_of, Kind, CustomSection, TypeSection, ImportSection, FunctionSection, TableSection, MemorySection, TagSection, GlobalSection, ExportSection, StartSection, ElementSection, DataCountSection, CodeSection, DataSection}
+use Rattle.wasmprinter_spec.specs.Customs.{name_section}
+use Rattle.wasmprinter_hidden.specs.Findings.{any_section, finding, if_longer}
+use Rattle.wasmprinter_hidden.specs.HiddenNames.{in_names}
+use Rattle.wasmprinter_hidden.specs.HiddenHints.{in_hints}
 use Rattle.wasmprinter_hidden.specs.Lengths.{unsigned_len, list_len, bytes_len, group_len, memory_type_len, tag_len, import_len, export_len, table_len, global_len, element_len, data_len, local_entry_len, operator_len}
 use Rattle.wasmprinter_hidden.specs.declared.finding.Part.{Part}
 use Rattle.wasmprinter_hidden.specs.declared.finding.Part.TheVariants.{Section, SectionSize, Count, Contents, Entry, CustomName, BodySize, LocalCount, LocalGroup, Instruction}
 use Rattle.wasmprinter_hidden.specs.declared.finding.Finding.{Finding}
 
 -- ---- The sections as they follow each other (section 5.5 of the standard, "Sections")
-
--- A section of any kind: its id, its size n, and its contents, which are n bytes, with the place of the first of them.
-abbrev pub any_section : Grammar (ℕ × Placed (List ℕ))
-any_section = seq byte (λ id. map_value (λ x. x.1) (seq u32 (λ size. value_with_place (take_bytes size))))
 
 -- The extent of a section: the place of its id, the id, the place of its contents, and the place after them.
 pub record Extent : Type 0 where
@@ -43,16 +44,7 @@ pub data AreExtents : Input → List Extent → Type 0 where
 abbrev pub HaveExtents : List ℕ → List Extent → Type 0
 HaveExtents wasm extents = (sections : List ℕ) × (wasm ≡ preamble_bytes ++ sections) × AreExtents (input (length preamble_bytes) sections) extents
 
--- ---- Findings
-
--- The part of the module that starts at this place has so many more bytes than its shortest encoding. The order is that of
--- the fields.
-abbrev pub finding : ℕ → Part → ℕ → Finding
-finding place part extra = record { place = place; part = part; extra = extra }
-
--- A finding if the bytes from the place `start` up to `end` are more than `len`.
-abbrev pub if_longer : Part → ℕ → ℕ → ℕ → List Finding
-if_longer part start end len = if nat_lt len (end - start) then finding start part (end - start - len) ∷ [] else []
+-- ---- In items
 
 -- The place of the first item, or `end` if there is none.
 abbrev pub first_place : {A : Type 0} → List (Placed A) → ℕ → ℕ
@@ -146,17 +138,25 @@ in_section m (Some DataSection) x = in_entries data_len m.data_segments x
 
 -- ---- In all sections
 
--- The findings in the name of the first of these custom sections.
-abbrev pub in_first_name : List CustomEntry → List Finding
-in_first_name [] = []
-in_first_name (c ∷ cs) = if_longer CustomName c.section.place c.section.value.bytes.place (bytes_len c.section.value.name)
+-- The findings in the data of a custom section, by its name. `later` are the custom sections after it.
+abbrev pub in_data : PlacedModule → List CustomEntry → Custom → List Finding
+in_data m later c =
+    if bytes_eq c.name name_section then in_names m c.bytes
+    else if bytes_eq c.name (codes "metadata.code.branch_hint") then in_hints m later c.bytes
+    else []
+
+-- The findings in the first of these custom sections: in its name, and in its data.
+abbrev pub in_first_custom : PlacedModule → List CustomEntry → List Finding
+in_first_custom m [] = []
+in_first_custom m (c ∷ cs) =
+    if_longer CustomName c.section.place c.section.value.bytes.place (bytes_len c.section.value.name) ++ in_data m cs c.section.value
 
 -- The findings in sections that follow each other. Their custom sections are the first of these.
 abbrev pub in_sections : PlacedModule → List CustomEntry → List Extent → List Finding
 in_sections m customs [] = []
 in_sections m customs (x ∷ xs) =
     in_section m (kind_of x.id) x
-    ++ (if x.id == 0 then in_first_name customs ++ in_sections m (drop 1 customs) xs else in_sections m customs xs)
+    ++ (if x.id == 0 then in_first_custom m customs ++ in_sections m (drop 1 customs) xs else in_sections m customs xs)
 
 -- The bytes encode a module, and these are the findings in its sections.
 pub record AreHidden (wasm : List ℕ) (found : List Finding) : Type 0 where

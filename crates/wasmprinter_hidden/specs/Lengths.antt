@@ -3,9 +3,9 @@
 -- have a short and a long form.
 use Rattle.std.specs.Prelude.{ℕ, zero, suc, ℤ, pos, negsuc, ◌+◌, ◌*◌, ◌/◌, List, [], ◌∷◌, length, Bool, true, false, ◌&&◌, ◌==◌, nat_lt, if◌then◌else◌, Option, Some, None}
 use Rattle.wasmprinter_spec.specs.Grammar.{Placed}
-use Rattle.wasmprinter_spec.specs.Types.{HeapType, Index as TypeIndex, Func, RefType, ValType, Ref, StorageType, Val, FieldType, FuncType, CompositeType, FuncComposite, ArrayComposite, StructComposite, SubType, Limits, TableType, MemoryType, GlobalType, ExternType, FuncExtern, TableExtern, MemoryExtern, GlobalExtern, TagExtern}
+use Rattle.wasmprinter_spec.specs.Types.{HeapType, Index as TypeIndex, RefType, ValType, Ref, StorageType, Val, FieldType, CompositeType, FuncComposite, ArrayComposite, StructComposite, SubType, Limits, TableType, MemoryType, GlobalType, ExternType, FuncExtern, TableExtern, MemoryExtern, GlobalExtern, TagExtern}
 use Rattle.wasmprinter_spec.specs.Operator.{Opcode, BlockType, Empty, Value, OfType, Catch, One, OneRef, All, AllRef, MemArg, Immediates, NoImmediates, Block, TryTable, Index, Indices, BranchTable, Types, Heap, Cast, Memory, MemoryLane, Lane, I32, I64, F32, F64, Bytes, Operator}
-use Rattle.wasmprinter_spec.specs.Placed.{TypeGroup, LocalEntry, Export, Import, Custom, Table, Global, ElementMode, Passive, Declared, Active, Items, Functions, Expressions, Element, ElementEntry, DataMode, PassiveData, ActiveData, Data}
+use Rattle.wasmprinter_spec.specs.Placed.{TypeGroup, LocalEntry, Export, Import, Table, Global, ElementMode, Passive, Declared, Active, Items, Functions, Expressions, ElementEntry, DataMode, PassiveData, ActiveData, Data}
 
 -- ---- Numbers and lists (sections 5.1 and 5.2)
 

@@ -4,7 +4,8 @@ use Rattle.wasmprinter_spec.specs.Grammar.{Placed}
 use Rattle.wasmprinter_spec.specs.Operator.{Operator}
 use Rattle.wasmprinter_spec.specs.Placed.{LocalEntry}
 use Rattle.wasmprinter_hidden.specs.Lengths.{local_entry_len, operator_len}
-use Rattle.wasmprinter_hidden.specs.Hidden.{if_longer, first_place, in_items}
+use Rattle.wasmprinter_hidden.specs.Findings.{if_longer}
+use Rattle.wasmprinter_hidden.specs.Hidden.{first_place, in_items}
 use Rattle.wasmprinter_hidden.specs.declared.finding.Part.{Part}
 use Rattle.wasmprinter_hidden.specs.declared.finding.Finding.{Finding}
 use Rattle.wasmprinter_hidden.specs.declared.findings.OpenPart.{OpenPart}

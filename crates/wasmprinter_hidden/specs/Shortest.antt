@@ -1,6 +1,6 @@
 -- What it means that a length is that of the shortest encoding.
-use Rattle.std.specs.Prelude.{◌≡◌, ℕ, ◌≤◌, List, length}
-use Rattle.wasmprinter_spec.specs.Grammar.{Grammar, Placed}
+use Rattle.std.specs.Prelude.{◌≡◌, ℕ, ◌≤◌, Bool, List, length}
+use Rattle.wasmprinter_spec.specs.Grammar.{Grammar}
 use Rattle.wasmprinter_spec.specs.Binary.{AreBytes}
 use Rattle.wasmprinter_spec.specs.Binary.Types.{group}
 use Rattle.wasmprinter_spec.specs.Binary.Memories.{memory_type}
@@ -13,10 +13,11 @@ use Rattle.wasmprinter_spec.specs.Binary.Elements.{element}
 use Rattle.wasmprinter_spec.specs.Binary.DataSegments.{segment}
 use Rattle.wasmprinter_spec.specs.Binary.Code.{local_entry}
 use Rattle.wasmprinter_spec.specs.Instructions.{operator}
-use Rattle.wasmprinter_spec.specs.Name.{u32, name}
+use Rattle.wasmprinter_spec.specs.Name.{u32, name, vec}
 use Rattle.wasmprinter_spec.specs.Operator.{Operator}
+use Rattle.wasmprinter_spec.specs.Placed.{ElementEntry, Element}
 use Rattle.wasmprinter_spec.specs.Module.{table_without_places, global_without_places, element_without_places, data_without_places}
-use Rattle.wasmprinter_hidden.specs.Lengths.{unsigned_len, bytes_len, group_len, memory_type_len, tag_len, import_len, export_len, table_len, global_len, element_len, data_len, local_entry_len, operator_len}
+use Rattle.wasmprinter_hidden.specs.Lengths.{unsigned_len, list_len, bytes_len, group_len, memory_type_len, tag_len, import_len, export_len, table_len, global_len, element_len, data_len, local_entry_len, operator_len}
 
 -- Every encoding of a value has at least as many bytes as `len` says.
 abbrev pub AreAtLeast : {A : Type 0} → Grammar A → (A → ℕ) → Type 0
@@ -39,10 +40,15 @@ pub record IsShortestBut {A B : Type 0} (without_places : A → B) (g : Grammar 
   pub one_has : (p q : ℕ) (bytes : List ℕ) (a : A) → AreBytes bytes → g.spells p bytes a
       → (short : List ℕ) × (b : A) × AreBytes short × g.spells q short b × (without_places b ≡ without_places a) × (length short ≡ len a)
 
+-- An element segment without the places of its operators, and whether the bytes have its table index.
+abbrev pub entry_without_places : ElementEntry → Bool × Element Operator
+entry_without_places e = (e.has_table_index, element_without_places e)
+
 -- The lengths of this crate are those of the shortest encodings.
 pub record AreShortest : Type 0 where
   pub numbers : IsShortest u32 unsigned_len
   pub names : IsShortest name bytes_len
+  pub type_indices : IsShortest (vec u32) (list_len unsigned_len)
   pub groups : IsShortest group group_len
   pub memory_types : IsShortest memory_type memory_type_len
   pub tags : IsShortest tag tag_len
@@ -52,5 +58,5 @@ pub record AreShortest : Type 0 where
   pub operators : IsShortest operator operator_len
   pub tables : IsShortestBut table_without_places table table_len
   pub globals : IsShortestBut global_without_places global global_len
-  pub elements : IsShortestBut element_without_places element element_len
+  pub elements : IsShortestBut entry_without_places element element_len
   pub data_segments : IsShortestBut data_without_places segment data_len

@@ -1,8 +1,8 @@
 //! Lengths of the shortest encodings of the entries of sections (section 5.5 of the WebAssembly Core Specification), and of
 //! the expressions in them (section 5.4, "Expressions").
 ghost use Rattle.std.specs.Prelude.{◌≡◌, ◌-◌};
-ghost use Rattle.wasmprinter_decoder.specs.Segments.{constants_of, init_view, element_mode_view, element_items_view, data_mode_view};
-ghost use Rattle.wasmprinter_hidden.specs.Lengths.{list_len, expression_len, table_init_len, element_mode_len, omits_type, element_items_len, data_mode_len};
+ghost use Rattle.wasmprinter_decoder.specs.Segments.{init_view, element_mode_view, element_items_view, data_mode_view};
+ghost use Rattle.wasmprinter_hidden.specs.Lengths.{table_init_len, element_mode_len, omits_type, element_items_len, data_mode_len};
 
 use crate::excess::{Excess, Shortest};
 use crate::list_lengths::{take_bytes, take_list, take_slice};
@@ -125,13 +125,6 @@ fn omits_type(mode: &ElementMode, has_table_index: bool) -> bool
     !has_table_index && matches!(mode, ElementMode::Active { .. })
 }
 
-/// Takes the bytes of a list of expressions away.
-fn take_expressions(expressions: &[Expression], excess: &mut Excess)
-    ensures { excess.new.bytes ≡ excess.old.bytes - list_len expression_len (constants_of expressions.now) }
-{
-    take_slice(expressions, excess);
-}
-
 /// Takes the bytes of the items of an element segment away, with their kind or type unless it is omitted.
 fn take_element_items(items: &ElementItems, omits_type: bool, excess: &mut Excess)
     ensures { excess.new.bytes ≡ excess.old.bytes - element_items_len omits_type (element_items_view items.now) }
@@ -147,7 +140,7 @@ fn take_element_items(items: &ElementItems, omits_type: bool, excess: &mut Exces
             if !omits_type {
                 ref_type.take_from(excess);
             }
-            take_expressions(expressions, excess);
+            take_slice(expressions, excess);
         }
     }
 }

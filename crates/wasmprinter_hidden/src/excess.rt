@@ -45,8 +45,8 @@ pub(crate) fn unsigned_len(number: u64) -> u64
     len
 }
 
-/// Returns the number of bytes of the shortest encoding of a signed integer in LEB128. It has one bit more than the
-/// integer, or than its complement if it is negative.
+/// Returns the number of bytes of the shortest encoding of a signed integer in LEB128. The encoding has one bit more than
+/// the integer, or than the integer's complement if the integer is negative.
 pub(crate) fn signed_len(number: i64) -> u64
     ensures { result ≡ signed_len number }
 {

@@ -24,16 +24,35 @@ pub enum Part {
     LocalGroup,
     /// An instruction.
     Instruction,
+    /// A subsection of a name section whose id is unknown: this id.
+    NameSubsection(u8),
+    /// The number that encodes the size of a subsection of a name section with this id.
+    NameSubsectionSize(u8),
+    /// The number that encodes how many names follow, or how many functions or types with names.
+    NameCount,
+    /// The index of a function or type, before names of its locals, labels or fields.
+    NameOwner,
+    /// A name with its index.
+    Name,
+    /// A name of something that the module does not have, with its index.
+    NameOfNothing,
+    /// Bytes of a name section that are not read.
+    UnreadNames,
+    /// A branch hint that no instruction has.
+    Hint,
+    /// The data of a section with branch hints that is malformed, or that a later section with branch hints replaces.
+    HintSection,
 }
 
-/// A part of a module with more bytes than its shortest encoding, or a section without entries.
+/// A part of a module that its text does not show.
 #[derive(Clone, Copy, Debug, PartialEq, Eq)]
 pub struct Finding {
     /// The byte offset of the part from the start of the module.
     pub place: u64,
     /// The part.
     pub part: Part,
-    /// The number of bytes that the shortest encoding of the part does not have; of a section without entries, all its
-    /// bytes.
+    /// The number of bytes that the shortest encoding of the part does not have. Of a section without entries, an unknown
+    /// subsection, a name of nothing and bytes that are not read, the number of all bytes; of a hint that no instruction
+    /// has, that of its shortest encoding.
     pub extra: u64,
 }

@@ -1,7 +1,8 @@
-//! What the text of a module does not show: where its bytes have a shorter encoding.
+//! What the text of a module does not show: where its bytes have a shorter encoding, and names and hints of nothing.
 #![tactic(auto)]
 
 mod body_findings;
+mod custom_findings;
 mod entry_lengths;
 mod entry_places;
 mod excess;
@@ -11,11 +12,18 @@ mod function_findings;
 mod hidden_bytes;
 #[cfg(test)]
 mod hidden_tests;
+mod hint_entries;
+mod hint_findings;
 mod list_lengths;
+mod name_counts;
+mod name_entries;
+mod name_findings;
+mod name_subsections;
 mod operator_lengths;
 mod section_extents;
 mod section_findings;
 mod section_ids;
+pub mod shortest;
 mod type_lengths;
 
-pub use hidden_bytes::hidden;
+pub use hidden_bytes::{findings_are_unique, hidden};

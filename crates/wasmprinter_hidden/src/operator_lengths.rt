@@ -1,12 +1,10 @@
 //! Lengths of the shortest encodings of operators (section 5.4 of the WebAssembly Core Specification).
 ghost use Rattle.std.specs.Prelude.{◌≡◌, ◌-◌};
-ghost use Rattle.wasmprinter_ops.specs.Blocks.{catches_view};
-ghost use Rattle.wasmprinter_hidden.specs.Lengths.{list_len, catch_len, memory_len, reserved_len};
+ghost use Rattle.wasmprinter_hidden.specs.Lengths.{memory_len, reserved_len};
 
 use crate::excess::{Excess, Shortest};
 use crate::list_lengths::take_list;
-use crate::type_lengths::take_val_types;
-use wasmprinter_ops::block_immediates::{BlockType, Catch, Catches};
+use wasmprinter_ops::block_immediates::{BlockType, Catch};
 use wasmprinter_ops::mem_arg::MemArg;
 use wasmprinter_ops::opcode_shapes_arities_and_roles::Opcode;
 use wasmprinter_ops::operator::{Immediates, Operator};
@@ -72,13 +70,6 @@ impl Shortest for Catch {
     }
 }
 
-/// Takes the bytes of a list of catch clauses away.
-fn take_catches(catches: &Catches, excess: &mut Excess)
-    ensures { excess.new.bytes ≡ excess.old.bytes - list_len catch_len (catches_view catches.now) }
-{
-    take_list(catches, excess);
-}
-
 /// Takes the bytes of the index of a memory away. The index 0 needs none.
 pub(crate) fn take_memory(memory: u32, excess: &mut Excess)
     ensures { excess.new.bytes ≡ excess.old.bytes - memory_len memory }
@@ -112,7 +103,7 @@ impl Shortest for Immediates<'_> {
             Immediates::Block(block_type) => block_type.take_from(excess),
             Immediates::TryTable(block_type, catches) => {
                 block_type.take_from(excess);
-                take_catches(catches, excess);
+                take_list(catches, excess);
             }
             Immediates::Index(index) => index.take_from(excess),
             Immediates::Indices(first, second) => {
@@ -123,7 +114,7 @@ impl Shortest for Immediates<'_> {
                 take_list(targets, excess);
                 otherwise.take_from(excess);
             }
-            Immediates::Types(types) => take_val_types(types, excess),
+            Immediates::Types(types) => take_list(types, excess),
             Immediates::Heap(heap) => heap.take_from(excess),
             Immediates::Cast(_, label, source, target) => {
                 excess.take(1);

@@ -1,17 +1,15 @@
 //! Lengths of the shortest encodings of types (section 5.3 of the WebAssembly Core Specification).
 ghost use Rattle.std.specs.Prelude.{◌≡◌, ◌-◌};
-ghost use Rattle.wasmprinter_hidden.specs.Lengths.{items_len, list_len, val_type_len, field_type_len, composite_type_len, sub_type_parts_len, sub_type_len, max_len, tag_len};
 ghost use Rattle.wasmprinter_spec.specs.Types.{CompositeType as CompositeTypeValue};
-ghost use Rattle.wasmprinter_ops.specs.ValTypes.{val_types_view};
-ghost use Rattle.wasmprinter_ops.specs.Types.{fields_view};
+ghost use Rattle.wasmprinter_hidden.specs.Lengths.{items_len, composite_type_len, sub_type_parts_len, sub_type_len, max_len, tag_len};
 
 use crate::excess::{Excess, Shortest};
 use crate::list_lengths::take_list;
 use wasmprinter_decoder::{ExternType, GlobalType, Limits, MemoryType, TableType, TypeGroup};
 use wasmprinter_ops::composite_types::{
-    CompositeType, FieldType, FieldTypes, FuncType, StorageType, SubType, SubTypes, TypeIndices,
+    CompositeType, FieldType, FuncType, StorageType, SubType, SubTypes, TypeIndices,
 };
-use wasmprinter_ops::{HeapType, RefType, ValType, ValTypes};
+use wasmprinter_ops::{HeapType, RefType, ValType};
 
 impl Shortest for HeapType {
     ghost use Rattle.wasmprinter_ops.specs.ValTypes.{heap_view};
@@ -82,13 +80,6 @@ impl Shortest for FieldType {
     }
 }
 
-/// Takes the bytes of a list of value types away.
-pub(crate) fn take_val_types(types: &ValTypes, excess: &mut Excess)
-    ensures { excess.new.bytes ≡ excess.old.bytes - list_len val_type_len (val_types_view types.now) }
-{
-    take_list(types, excess);
-}
-
 impl Shortest for FuncType<'_> {
     ghost use Rattle.std.specs.Prelude.{◌+◌};
     ghost use Rattle.wasmprinter_hidden.specs.Lengths.{list_len, val_type_len};
@@ -96,16 +87,9 @@ impl Shortest for FuncType<'_> {
     ghost len = { λ t. list_len val_type_len t.params + list_len val_type_len t.results };
 
     fn take_from(&self, excess: &mut Excess) {
-        take_val_types(&self.params(), excess);
-        take_val_types(&self.results(), excess);
+        take_list(&self.params(), excess);
+        take_list(&self.results(), excess);
     }
-}
-
-/// Takes the bytes of a list of field types away.
-fn take_fields(fields: &FieldTypes, excess: &mut Excess)
-    ensures { excess.new.bytes ≡ excess.old.bytes - list_len field_type_len (fields_view fields.now) }
-{
-    take_list(fields, excess);
 }
 
 impl Shortest for CompositeType<'_> {
@@ -119,7 +103,7 @@ impl Shortest for CompositeType<'_> {
         match self {
             CompositeType::Func(func_type) => func_type.take_from(excess),
             CompositeType::Array(element) => element.take_from(excess),
-            CompositeType::Struct(fields) => take_fields(fields, excess),
+            CompositeType::Struct(fields) => take_list(fields, excess),
         }
     }
 }
