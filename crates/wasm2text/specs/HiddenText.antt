@@ -9,7 +9,7 @@ use Rattle.wasmprinter_decoder.specs.Decoding.{HasDecodingReason}
 use Rattle.wasmprinter_hidden.specs.Hidden.{AreHidden}
 use Rattle.wasmprinter_hidden.specs.declared.finding.Finding.{Finding}
 use Rattle.wasmprinter_hidden.specs.declared.finding.Part.{Part}
-use Rattle.wasmprinter_hidden.specs.declared.finding.Part.TheVariants.{Section, SectionSize, Count, Contents, Entry, CustomName, BodySize, LocalCount, LocalGroup, Instruction}
+use Rattle.wasmprinter_hidden.specs.declared.finding.Part.TheVariants.{Section, SectionSize, Count, Contents, Entry, CustomName, BodySize, LocalCount, LocalGroup, Instruction, NameSubsection, NameSubsectionSize, NameCount, NameOwner, Name, NameOfNothing, UnreadNames, Hint, HintSection}
 use Rattle.wasm2text.specs.declared.cause.Cause.{Cause}
 use Rattle.wasm2text.specs.declared.cause.Cause.TheVariants.{Module}
 
@@ -53,6 +53,15 @@ part_text BodySize = codes "size of a function body"
 part_text LocalCount = codes "count of groups of locals"
 part_text LocalGroup = codes "group of locals"
 part_text Instruction = codes "instruction"
+part_text (NameSubsection id) = codes "unknown subsection " ++ (decimal id ++ codes " of a name section")
+part_text (NameSubsectionSize id) = codes "size of subsection " ++ (decimal id ++ codes " of a name section")
+part_text NameCount = codes "count of names"
+part_text NameOwner = codes "index of a function or type with names"
+part_text Name = codes "name"
+part_text NameOfNothing = codes "name of nothing"
+part_text UnreadNames = codes "unread bytes of a name section"
+part_text Hint = codes "branch hint of no instruction"
+part_text HintSection = codes "malformed or replaced branch hints"
 
 -- The line of a finding: its place in hexadecimal, the part, and the number of bytes in decimal.
 abbrev pub finding_line : Finding → List ℕ

@@ -118,7 +118,7 @@ fn reports_modules_that_cant_be_decoded(rt: HostRuntime) -> Result<(), Fail> {
 /// The place, the part and the number of extra bytes of a finding, and its line.
 type LineRow = (u64, Part, u64, &'static str);
 
-/// A finding for each part, and for each section.
+/// A finding for each other part, and for each section.
 const LINE_ROWS: &[LineRow] = &[
     (
         8,
@@ -248,6 +248,59 @@ const LINE_ROWS: &[LineRow] = &[
     ),
 ];
 
+/// A finding for each part of a name section and of branch hints.
+const NAME_ROWS: &[LineRow] = &[
+    (
+        0,
+        Part::NameSubsection(255),
+        2,
+        "0x0: unknown subsection 255 of a name section, extra bytes: 2\n",
+    ),
+    (
+        1,
+        Part::NameSubsectionSize(0),
+        1,
+        "0x1: size of subsection 0 of a name section, extra bytes: 1\n",
+    ),
+    (
+        2,
+        Part::NameCount,
+        1,
+        "0x2: count of names, extra bytes: 1\n",
+    ),
+    (
+        3,
+        Part::NameOwner,
+        1,
+        "0x3: index of a function or type with names, extra bytes: 1\n",
+    ),
+    (4, Part::Name, 1, "0x4: name, extra bytes: 1\n"),
+    (
+        5,
+        Part::NameOfNothing,
+        9,
+        "0x5: name of nothing, extra bytes: 9\n",
+    ),
+    (
+        6,
+        Part::UnreadNames,
+        1,
+        "0x6: unread bytes of a name section, extra bytes: 1\n",
+    ),
+    (
+        7,
+        Part::Hint,
+        3,
+        "0x7: branch hint of no instruction, extra bytes: 3\n",
+    ),
+    (
+        8,
+        Part::HintSection,
+        1,
+        "0x8: malformed or replaced branch hints, extra bytes: 1\n",
+    ),
+];
+
 /// Returns whether the finding of a row has its line.
 fn is_line(alloc: Global, row: &LineRow) -> Result<bool, Fail> {
     let (place, part, extra, line) = *row;
@@ -263,6 +316,13 @@ fn first_other_line(alloc: Global, rows: &[LineRow]) -> Result<Option<usize>, Fa
         }
     }
     Ok(None)
+}
+
+#[test]
+fn names_each_part_of_names_and_hints(rt: HostRuntime) -> Result<(), Fail> {
+    let other = first_other_line(rt.alloc(), NAME_ROWS)?;
+    assert!(rt; other == None, "row {other:?}");
+    Ok(())
 }
 
 #[test]

@@ -11,8 +11,8 @@ use std::fmt;
 use wasmprinter_hidden::finding::{Finding, Part};
 use wasmprinter_hidden::hidden;
 
-/// Returns what no text of a module shows: a line for each part that has a longer encoding than needed, and for each
-/// section without entries.
+/// Returns what no text of a module shows: a line for each part that has a longer encoding than needed, for each section
+/// without entries, and for names and branch hints of nothing.
 ///
 /// # Errors
 ///
@@ -72,6 +72,15 @@ impl fmt::Display for PartText {
             Part::LocalCount => f.write_str("count of groups of locals"),
             Part::LocalGroup => f.write_str("group of locals"),
             Part::Instruction => f.write_str("instruction"),
+            Part::NameSubsection(id) => write!(f, "unknown subsection {id} of a name section"),
+            Part::NameSubsectionSize(id) => write!(f, "size of subsection {id} of a name section"),
+            Part::NameCount => f.write_str("count of names"),
+            Part::NameOwner => f.write_str("index of a function or type with names"),
+            Part::Name => f.write_str("name"),
+            Part::NameOfNothing => f.write_str("name of nothing"),
+            Part::UnreadNames => f.write_str("unread bytes of a name section"),
+            Part::Hint => f.write_str("branch hint of no instruction"),
+            Part::HintSection => f.write_str("malformed or replaced branch hints"),
         }
     }
 }
