@@ -64,7 +64,8 @@ git_case() {
 }
 
 # The modules: the empty one, the identity function, one that lacks its last byte, one whose `dylink.0` section has subsection 9, a component,
-# one with an unknown section, one with a legacy `try`, one whose custom section `z` has 2097150 zeros, and the README's example
+# one with an unknown section, one with a legacy `try`, one whose custom section `z` has 2097150 zeros, one with longer encodings than needed, and
+# the README's example
 printf '\000asm\001\000\000\000' >empty.wasm
 printf '\000asm\001\000\000\000\001\006\001\140\001\177\001\177\003\002\001\000\007\005\001\001f\000\000\012\006\001\004\000\040\000\013' \
     >same.wasm
@@ -74,6 +75,8 @@ printf '\000asm\015\000\001\000' >component.wasm
 printf '\000asm\001\000\000\000\016\000' >unknown.wasm
 printf '\000asm\001\000\000\000\001\004\001\140\000\000\003\002\001\000\012\010\001\006\000\006\100\031\013\013' >legacy.wasm
 printf '\000asm\001\000\000\000\000\200\200\200\001\001z' | cat - /dev/zero | head -c 2097165 >big.wasm
+printf '\000asm\001\000\000\000\001\204\200\200\200\000\001\140\000\000\002\011\001\201\200\000m\001g\000\000\003\002\001\000\006\001\000\012\013\001\011\000\101\200\200\200\200\000\032\013' \
+    >padded.wasm
 printf '\0asm\1\0\0\0\1\6\1`\1\177\1\177\2\17\1\3env\6memory\2\0\1\3\2\1\0\7\10\1\4find\0\0\12\34\1\32\0\2@\3@ \0(\2\0\15\1 \0(\2\4"\0\15\0\13\13 \0\13\0+\4name\1\7\1\0\4find\2\11\1\0\1\0\4item\3\20\1\0\2\0\5found\1\4next' \
     >find.wasm
 
@@ -297,6 +300,25 @@ case_of 1 --func '$a"é' escaped.wasm short.wasm
 echo "  (func \$$seventy (;0;) (type 0))" >out
 case_of 0 --func "\$$seventy" long.wasm
 
+# What no text shows. The module with subsection 9 is decoded, but not printed.
+cat >padded.lines <<'END'
+0x9: size of the type section, extra bytes: 4
+0x15: entry of the import section, extra bytes: 2
+0x21: empty global section, extra bytes: 3
+0x29: instruction, extra bytes: 4
+END
+cp padded.lines out
+case_of 0 --hidden padded.wasm
+case_of 0 --at 0 -p -f --color=always padded.wasm --hidden
+input_case 0 padded.wasm --hidden
+echo 'wasm2text: cut.wasm: malformed module at byte 0x0' >err
+case_of 1 --hidden cut.wasm late.wasm padded.wasm
+: >out
+: >err
+case_of 0 --hidden same.wasm find.wasm
+echo '  (import "m" "g" (func (;0;) (type 0)))' >out
+case_of 0 --hidden --func 0 padded.wasm
+
 # Output files. The first line of `out` starts what the file holds.
 { echo '-- new.wat:' && cat same.wat; } >out
 file_case 0 new.wat -o new.wat same.wasm
@@ -321,6 +343,10 @@ cat >out <<'END'
 > 1 (module)
 END
 file_case 0 new.wat -o new.wat --at 5 empty.wasm
+{ echo '-- new.wat:' && cat padded.lines; } >out
+file_case 0 new.wat -o new.wat --hidden padded.wasm
+echo '-- no none.wat' >out
+file_case 0 none.wat -o none.wat --hidden same.wasm
 
 { echo '-- new.wat:' && cat empty.wat same.wat; } >out
 file_case 0 new.wat -o new.wat empty.wasm same.wasm
@@ -443,6 +469,8 @@ echo "wasm2text: unknown option '-pf'. Try 'wasm2text --help'." >err
 case_of 2 -pf same.wasm
 echo "wasm2text: unknown option '--skeleton=yes'. Try 'wasm2text --help'." >err
 case_of 2 --skeleton=yes same.wasm
+echo "wasm2text: unknown option '--hidden=yes'. Try 'wasm2text --help'." >err
+case_of 2 --hidden=yes same.wasm
 echo "wasm2text: unknown option '-o=new.wat'. Try 'wasm2text --help'." >err
 case_of 2 -o=new.wat same.wasm
 echo "wasm2text: unknown option '--print'. Try 'wasm2text --help'." >err
@@ -506,6 +534,7 @@ Options:
       --code-offset OFFSET
                            As --at, with OFFSET counted from the code section
       --func FUNCTION      Print only the text of one function
+      --hidden             Print only what no text shows, as padded numbers
   -o, --output FILE        Write to FILE instead of standard output
   -h, --help               Print this help
   -V, --version            Print the version
@@ -522,6 +551,11 @@ contents of its code section, as in DWARF.
 With --func, the lines of one function are printed as they are in the whole
 text, without colors. FUNCTION is its index, as OFFSET is written, and imported
 functions are counted; or $ and the rest of its identifier, as '$find'.
+
+With --hidden, a line is printed for each part of a module that no text shows,
+instead of the text: its byte offset, its name, and the number of its bytes that
+are not needed. Such parts are numbers and forms that are longer than needed,
+sections without entries, and names and branch hints of nothing.
 
 Exit status:
   0  no file failed; the reader of the text may have closed the pipe

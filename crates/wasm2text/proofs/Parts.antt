@@ -1,11 +1,11 @@
--- How printing ends if the module's text has no such part.
+-- How printing ends if there is no such part.
 use Rattle.std.specs.Prelude.{ℕ, List, []}
 use Rattle.std.proofs.Common.{refl, ap, inl}
 use Rattle.wasmprinter_spec.specs.Options.{Options}
 use Rattle.wasm2text.specs.declared.cause.Cause.{Cause}
 use Rattle.wasm2text.specs.declared.cause.Cause.TheVariants.{System as Unread, Module, NoByte, NoCode, NoFunction, Output}
 use Rattle.wasm2text.specs.declared.printing.Ended.TheVariants.{Refused}
-use Rattle.wasm2text.specs.Parts.{Part, Excerpt, OneFunction, IsPartRefusal}
+use Rattle.wasm2text.specs.Parts.{Part, Excerpt, OneFunction, Hidden, IsPartRefusal}
 use Rattle.wasm2text.specs.Outcome.{PartForm, Writer, Returns, printing, choice, EndsAs}
 use Rattle.wasm2text.proofs.Texts.{writes_nothing}
 
@@ -24,3 +24,9 @@ ends_without_part w s o wasm (OneFunction function) (NoByte offset len) h = absu
 ends_without_part w s o wasm (OneFunction function) NoCode h = absurd h
 ends_without_part w s o wasm (OneFunction function) (Unread error) h = absurd h
 ends_without_part w s o wasm (OneFunction function) (Output error) h = absurd h
+ends_without_part w s o wasm Hidden (Module error) h = (refl, (wasm, [], refl, h, λ _. refl, inl refl, writes_nothing w s))
+ends_without_part w s o wasm Hidden (NoByte offset len) h = absurd h
+ends_without_part w s o wasm Hidden NoCode h = absurd h
+ends_without_part w s o wasm Hidden NoFunction h = absurd h
+ends_without_part w s o wasm Hidden (Unread error) h = absurd h
+ends_without_part w s o wasm Hidden (Output error) h = absurd h

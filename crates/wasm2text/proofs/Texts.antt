@@ -27,7 +27,7 @@ use Rattle.wasmprinter.proofs.TextOfFile.{component_error}
 use Rattle.wasm2text.specs.declared.cause.Cause.TheVariants.{System as Unread, Module, NoByte, NoCode, NoFunction, Output}
 use Rattle.wasm2text.specs.declared.printing.Ended.{Ended}
 use Rattle.wasm2text.specs.declared.printing.Ended.TheVariants.{Printed as Delivered, Refused, Unwritten}
-use Rattle.wasm2text.specs.Outcome.{Choice, Plain, Returns, HasTextIn, IsBeginning, IsCutText, Writer, WritesAll, Delivers, StopsAfter, StaysBehind, Printing, printing, choice, is_late, EndsAs, EndsBy}
+use Rattle.wasm2text.specs.Outcome.{Choice, Plain, Returns, HasTextIn, AreRefusedIn, IsBeginning, IsCutText, Writer, WritesAll, Delivers, StopsAfter, StaysBehind, Printing, printing, choice, is_late, EndsAs, EndsBy}
 
 -- The pieces of text that calls write.
 abbrev pieces_of : List Call → List (List ℕ)
@@ -86,7 +86,7 @@ LeavesText p s wasm error t =
 
 -- If the module was refused, then printing the file ends with this cause.
 pub ends_refused : {W : Type 0} (p : Printing W) (file wasm : List ℕ) (s new : W) (ended : Ended) (error : Error) → ended ≡ Refused (Module error) →
-    p.may_read file (Ok wasm) → AreRefused p.choice.options wasm error → LeavesText p s wasm error new → EndsAs p s file ended new
+    p.may_read file (Ok wasm) → AreRefusedIn p.choice.form p.choice.options wasm error → LeavesText p s wasm error new → EndsAs p s file ended new
 ends_refused p file wasm s new ended error e read refused left =
     subst (λ x. EndsAs p s file x new) (sym e) (refl, (wasm, left.0, read, refused, left.1, left.2, left.3))
 

@@ -4,11 +4,11 @@ use Rattle.std.specs.List.{starts_with, list_any, filter_map, last_or, repeat}
 use Rattle.std.specs.Str.Parse.{IsNumeral, digits_value, without_leading_plus}
 use Rattle.wasmprinter_spec.specs.Options.{Options, defaults}
 use Rattle.wasm2text.specs.FunctionText.{Function, Index, Identifier}
-use Rattle.wasm2text.specs.Parts.{Part, Excerpt, OneFunction}
+use Rattle.wasm2text.specs.Parts.{Part, Excerpt, OneFunction, Hidden}
 use Rattle.wasm2text.specs.declared.misuse.ArgumentError.{ArgumentError}
 use Rattle.wasm2text.specs.declared.misuse.ArgumentError.TheVariants.{UnknownOption, MissingValue, InvalidValue, Memory}
 use Rattle.wasm2text.specs.declared.options.Flag.{Flag}
-use Rattle.wasm2text.specs.declared.options.Flag.TheVariants.{Help, Version, PrintOffsets, Skeleton, NameUnnamed, FoldInstructions}
+use Rattle.wasm2text.specs.declared.options.Flag.TheVariants.{Help, Version, PrintOffsets, Skeleton, NameUnnamed, FoldInstructions, Hidden as ShowHidden}
 use Rattle.wasm2text.specs.declared.options.Setting.{Setting}
 use Rattle.wasm2text.specs.declared.options.Setting.TheVariants.{Output, Indent, Color, At as SetAt, CodeOffset as SetCodeOffset, Func as SetFunc}
 use Rattle.wasm2text.specs.declared.options.ColorChoice.{ColorChoice}
@@ -28,6 +28,7 @@ flag_named name =
     else if bytes_eq name (codes "--skeleton") then Some Skeleton
     else if bytes_eq name (codes "--name-unnamed") then Some NameUnnamed
     else if is_either name (codes "-f") (codes "--fold-instructions") then Some FoldInstructions
+    else if bytes_eq name (codes "--hidden") then Some ShowHidden
     else None
 
 -- The option with a value that has this name.
@@ -166,6 +167,7 @@ color_in argument = None
 
 abbrev pub part_in : Argument → Option Part
 part_in (Shows part) = Some part
+part_in (Flagged ShowHidden) = Some Hidden
 part_in argument = None
 
 abbrev pub file_in : Argument → Option (List ℕ)
@@ -180,6 +182,7 @@ is_flag PrintOffsets (Flagged PrintOffsets) = true
 is_flag Skeleton (Flagged Skeleton) = true
 is_flag NameUnnamed (Flagged NameUnnamed) = true
 is_flag FoldInstructions (Flagged FoldInstructions) = true
+is_flag ShowHidden (Flagged ShowHidden) = true
 is_flag flag argument = false
 
 -- The arguments contain this option.

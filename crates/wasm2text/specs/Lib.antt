@@ -3,6 +3,7 @@ pub mod Arguments
 pub mod CodeSection
 pub mod Excerpt
 pub mod FunctionText
+pub mod HiddenText
 pub mod Messages
 pub mod Outcome
 pub mod OutputFiles

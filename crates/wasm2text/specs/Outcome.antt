@@ -14,10 +14,11 @@ use Rattle.wasmprinter.specs.TextOfFile.{AreRefused}
 use Rattle.wasm2text.specs.Arguments.{Argument, IsCommandLine, IsArgumentError, Request, request_of, with_input}
 use Rattle.wasm2text.specs.Excerpt.{HaveNoByte, HaveNoCode}
 use Rattle.wasm2text.specs.FunctionText.{Function, HaveNoFunction}
+use Rattle.wasm2text.specs.HiddenText.{AreUndecoded}
 use Rattle.wasm2text.specs.Messages.{is_closed_pipe, Failure, failure_line, misuse_line}
 use Rattle.wasm2text.specs.OutputFiles.{Creating, Closing, WritesFile, FlushesFile, ClosesFile, uncreated_file}
 use Rattle.wasm2text.specs.OwnTexts.{help_text, version_text}
-use Rattle.wasm2text.specs.Parts.{Part, Excerpt, OneFunction, part_view, IsPartOf}
+use Rattle.wasm2text.specs.Parts.{Part, Excerpt, OneFunction, Hidden, part_view, IsPartOf}
 use Rattle.wasm2text.specs.declared.cause.Cause.{Cause}
 use Rattle.wasm2text.specs.declared.cause.Cause.TheVariants.{System as Unread, Module, NoByte, NoCode, NoFunction, Output}
 use Rattle.wasm2text.specs.declared.form.Form.{Form as ReadForm}
@@ -33,7 +34,7 @@ use Rattle.wasm2text.specs.declared.options.ColorChoice.TheVariants.{Auto, Alway
 use Rattle.wasm2text.specs.declared.target.Target.{Target}
 use Rattle.wasm2text.specs.declared.target.Target.TheVariants.{CodeByte}
 
--- What is written for a module: the text, the text with ANSI escape sequences, or a part of the text without them.
+-- What is written for a module: the text, the text with ANSI escape sequences, or a part without them.
 pub data Form : Type 0 where
   Plain : Form
   InColors : Form
@@ -73,11 +74,16 @@ form_of None colored = if colored then InColors else Plain
 abbrev pub choice_of : Request → Bool → Choice
 choice_of request shows_colors = choice request.options (form_of request.part (is_colored request.color request.output shows_colors))
 
--- The text is that of the module that the bytes encode, with ANSI escape sequences or without, or is a part of it.
+-- The text is that of the module that the bytes encode, with ANSI escape sequences or without, or is the part.
 abbrev pub HasTextIn : Form → Options → List ℕ → List ℕ → Type 0
 HasTextIn InColors o wasm text = HasColoredTextBy o wasm text
 HasTextIn Plain o wasm text = IsTextOf o wasm text
 HasTextIn (PartForm part) o wasm text = IsPartOf o wasm part text
+
+-- The bytes are refused with this error: by decoding, if what no text shows is to be written, and otherwise by printing.
+abbrev pub AreRefusedIn : Form → Options → List ℕ → Error → Type 0
+AreRefusedIn (PartForm Hidden) o wasm error = AreUndecoded wasm error
+AreRefusedIn form o wasm error = AreRefused o wasm error
 
 -- The text is empty, or a prefix of the text of the module that the bytes encode, without ANSI escape sequences.
 abbrev pub IsBeginning : Options → List ℕ → List ℕ → Type 0
@@ -166,7 +172,7 @@ IsCutText (PartForm part) o wasm text = (text ≡ []) × ((whole : List ℕ) × 
 abbrev pub FailsOn : {W : Type 0} → Printing W → W → List ℕ → Cause → W → Type 0
 FailsOn p old file (Unread error) new = p.may_read file (Err error) × (new ≡ old)
 FailsOn p old file (Module error) new =
-    (wasm text : List ℕ) × p.may_read file (Ok wasm) × AreRefused p.choice.options wasm error
+    (wasm text : List ℕ) × p.may_read file (Ok wasm) × AreRefusedIn p.choice.form p.choice.options wasm error
     × (is_late p.choice error ≡ false → text ≡ []) × IsBeginning p.choice.options wasm text × WritesAll p.out old text new
 FailsOn p old file (NoByte offset len) new =
     (wasm : List ℕ) × (target : Target) × p.may_read file (Ok wasm) × (p.choice.form ≡ PartForm (Excerpt target))

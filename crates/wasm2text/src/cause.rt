@@ -15,7 +15,7 @@ use wasmprinter::Error;
 pub enum Cause {
     /// A file can't be read or created.
     System(io::Error),
-    /// The module can't be printed.
+    /// The module can't be printed or decoded.
     Module(Error),
     /// The module has no byte at this offset.
     NoByte {

@@ -10,7 +10,7 @@ use wasmprinter_bytes::cursor::Cursor;
 const PREAMBLE: [u8; 8] = [0x00, 0x61, 0x73, 0x6d, 0x01, 0x00, 0x00, 0x00];
 
 /// The id of the code section.
-const CODE: u8 = 10;
+pub const CODE: u8 = 10;
 
 /// A section of any kind.
 #[derive(Drop)]

@@ -9,6 +9,6 @@ pub enum Form<'a> {
     Plain,
     /// The text with ANSI escape sequences.
     InColors,
-    /// A part of the text, without ANSI escape sequences.
+    /// A part of the text, or what no text shows, without ANSI escape sequences.
     Part(Part<'a>),
 }

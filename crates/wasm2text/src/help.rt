@@ -18,6 +18,7 @@ Options:
       --code-offset OFFSET
                            As --at, with OFFSET counted from the code section
       --func FUNCTION      Print only the text of one function
+      --hidden             Print only what no text shows, as padded numbers
   -o, --output FILE        Write to FILE instead of standard output
   -h, --help               Print this help
   -V, --version            Print the version
@@ -34,6 +35,11 @@ contents of its code section, as in DWARF.
 With --func, the lines of one function are printed as they are in the whole
 text, without colors. FUNCTION is its index, as OFFSET is written, and imported
 functions are counted; or $ and the rest of its identifier, as '$find'.
+
+With --hidden, a line is printed for each part of a module that no text shows,
+instead of the text: its byte offset, its name, and the number of its bytes that
+are not needed. Such parts are numbers and forms that are longer than needed,
+sections without entries, and names and branch hints of nothing.
 
 Exit status:
   0  no file failed; the reader of the text may have closed the pipe

@@ -17,6 +17,9 @@ mod function_search;
 mod function_tests;
 mod function_text;
 mod help;
+#[cfg(test)]
+mod hidden_tests;
+mod hidden_text;
 mod line_search;
 mod messages;
 mod misuse;

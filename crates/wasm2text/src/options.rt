@@ -18,6 +18,8 @@ pub enum Flag {
     NameUnnamed,
     /// Each operator is printed in parentheses with its operands.
     FoldInstructions,
+    /// Only what no text shows is written.
+    Hidden,
 }
 
 impl Flag {
@@ -32,6 +34,7 @@ impl Flag {
             "--skeleton" => Some(Flag::Skeleton),
             "--name-unnamed" => Some(Flag::NameUnnamed),
             "-f" | "--fold-instructions" => Some(Flag::FoldInstructions),
+            "--hidden" => Some(Flag::Hidden),
             _ => None,
         }
     }

@@ -1,4 +1,4 @@
-//! The part of a module's text that is written alone.
+//! What is written of a module instead of its whole text.
 ghost use Rattle.std.specs.Prelude.{IfOk, IfErr, string_bytes};
 ghost use Rattle.wasm2text.specs.Parts.{part_view, IsPartOf, IsPartRefusal};
 
@@ -6,24 +6,27 @@ use crate::cause::Cause;
 use crate::excerpt::excerpt_of;
 use crate::function_ref::FunctionRef;
 use crate::function_text::text_of_function;
+use crate::hidden_text::hidden_text;
 use crate::target::Target;
 use crate::text_options::TextOptions;
 use std::alloc::Global;
 
-/// A part of a module's text.
+/// What is written of a module instead of its whole text.
 #[derive(Clone, Copy)]
 pub enum Part<'a> {
     /// The excerpt that shows this byte.
     Excerpt(Target),
     /// The text of this function.
     Function(FunctionRef<'a>),
+    /// What no text of the module shows.
+    Hidden,
 }
 
-/// Returns a part of a module's text.
+/// Returns a part of a module's text, or what no text of the module shows.
 ///
 /// # Errors
 ///
-/// - `Module`: the module can't be printed, or an allocation failed.
+/// - `Module`: the module can't be printed or, for what no text shows, decoded; or an allocation failed.
 /// - `NoCode`: the byte is counted from the code section, and the module has no code section.
 /// - `NoByte`: the module does not have the byte.
 /// - `NoFunction`: the module does not have the function.
@@ -39,5 +42,6 @@ pub fn text_of_part(
     match part {
         Part::Excerpt(target) => excerpt_of(alloc, options.config, wasm, target),
         Part::Function(function) => text_of_function(alloc, options, wasm, function),
+        Part::Hidden => hidden_text(alloc, wasm),
     }
 }

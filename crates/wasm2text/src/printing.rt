@@ -31,7 +31,7 @@ pub struct Style<'a> {
 pub enum Ended {
     /// The text was written, and the writer was flushed.
     Printed,
-    /// The file can't be read or its module can't be printed.
+    /// The file can't be read, or its module can't be printed or decoded.
     Refused(Cause),
     /// The text can't be written.
     Unwritten(io::Error),
@@ -179,7 +179,7 @@ fn print_colored<O: Output>(alloc: Global, config: &Config, wasm: &[u8], out: O)
     }
 }
 
-/// Prints a part of a module's text. The part is complete before it is written. Returns the writer.
+/// Prints a part of a module's text, or what no text shows. It is complete before it is written. Returns the writer.
 fn print_part<O: Output>(
     alloc: Global,
     options: TextOptions<'_>,

@@ -4,6 +4,7 @@ ghost use Rattle.std.specs.Prelude.{⊤};
 use crate::excerpt_tests::{HINT, LONG};
 use crate::function_tests::NAMED;
 use crate::help::HELP;
+use crate::hidden_tests::PADDED;
 use crate::output::Output;
 use crate::program::run;
 use crate::system::{Inputs, Outputs};
@@ -47,6 +48,7 @@ impl Inputs for Memory {
             "long.wasm" => LONG,
             "hint.wasm" => HINT,
             "named.wasm" => NAMED,
+            "padded.wasm" => PADDED,
             "locked.wasm" => return Err(io::Error::from(ErrorKind::PermissionDenied)),
             "folder" => return Err(io::Error::from(ErrorKind::IsADirectory)),
             _ => return Err(io::Error::from(ErrorKind::NotFound)),
@@ -420,6 +422,7 @@ const NAMES: &[&str] = &[
     " --at OFFSET ",
     " --code-offset OFFSET\n",
     " --func FUNCTION ",
+    " --hidden ",
     "-o, --output FILE ",
     "-h, --help ",
     "-V, --version ",

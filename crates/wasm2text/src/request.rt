@@ -38,7 +38,7 @@ pub struct Request<'a> {
     pub color: ColorChoice,
     /// The file to which the text is written, or `None` for standard output.
     pub output: Option<&'a str>,
-    /// The part of each text that is written, or `None` for whole texts.
+    /// What is written of each module instead of its whole text, or `None` for whole texts.
     pub part: Option<Part<'a>>,
     /// The files with modules, in order.
     pub files: Vec<&'a str>,
@@ -77,6 +77,7 @@ impl<'a> Request<'a> {
             Flag::Skeleton => self.skeleton = true,
             Flag::NameUnnamed => self.name_unnamed = true,
             Flag::FoldInstructions => self.fold_instructions = true,
+            Flag::Hidden => self.part = Some(Part::Hidden),
         }
     }
 
@@ -101,7 +102,7 @@ impl<'a> Request<'a> {
         self.color = color;
     }
 
-    /// Sets the part of each text that is written.
+    /// Sets what is written of each module instead of its whole text.
     pub fn show_part(&mut self, part: Part<'a>)
         ensures { Adds self.old (Shows (part_view part.entry)) self.new }
     {

@@ -1,7 +1,8 @@
--- Each option changes its own field.
-use Rattle.std.proofs.Common.{true, refl}
+-- Each option changes its own field, or sets what is written.
+use Rattle.std.proofs.Common.{true, Some, refl}
 use Rattle.wasm2text.specs.Arguments.{Flagged}
-use Rattle.wasm2text.specs.declared.options.Flag.TheVariants.{Help, Version, PrintOffsets, Skeleton, NameUnnamed, FoldInstructions}
+use Rattle.wasm2text.specs.declared.options.Flag.TheVariants.{Help, Version, PrintOffsets, Skeleton, NameUnnamed, FoldInstructions, Hidden as ShowHidden}
+use Rattle.wasm2text.specs.declared.part.Part.TheVariants.{Hidden}
 use Rattle.wasm2text.proofs.Requests.{adds}
 use Rattle.wasm2text.proofs.request.Request.add_flag.Goals as goal
 
@@ -22,3 +23,6 @@ returns-in-NameUnnamed c = rw c.in-NameUnnamed.is (adds c.args.self.now (record 
 
 pub returns-in-FoldInstructions : goal.returns-in-FoldInstructions
 returns-in-FoldInstructions c = rw c.in-FoldInstructions.is (adds c.args.self.now (record c.args.self.now { fold_instructions = true }) (Flagged FoldInstructions) refl)
+
+pub returns-in-Hidden : goal.returns-in-Hidden
+returns-in-Hidden c = rw c.in-Hidden.is (adds c.args.self.now (record c.args.self.now { part = Some Hidden }) (Flagged ShowHidden) refl)
