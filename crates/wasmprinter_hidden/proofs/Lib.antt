@@ -6,4 +6,5 @@ mod OpenParts
 mod BodyParts
 mod SectionParts
 mod FunctionParts
+mod HintData
 mod HintParts
