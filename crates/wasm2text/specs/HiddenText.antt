@@ -60,7 +60,7 @@ part_text NameOwner = codes "index of a function or type with names"
 part_text Name = codes "name"
 part_text NameOfNothing = codes "name of nothing"
 part_text UnreadNames = codes "unread bytes of a name section"
-part_text Hint = codes "branch hint of no instruction"
+part_text Hint = codes "unused branch hint"
 part_text HintSection = codes "malformed or replaced branch hints"
 
 -- The line of a finding: its place in hexadecimal, the part, and the number of bytes in decimal.

@@ -291,7 +291,7 @@ const NAME_ROWS: &[LineRow] = &[
         7,
         Part::Hint,
         3,
-        "0x7: branch hint of no instruction, extra bytes: 3\n",
+        "0x7: unused branch hint, extra bytes: 3\n",
     ),
     (
         8,

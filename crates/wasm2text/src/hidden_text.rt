@@ -79,7 +79,7 @@ impl fmt::Display for PartText {
             Part::Name => f.write_str("name"),
             Part::NameOfNothing => f.write_str("name of nothing"),
             Part::UnreadNames => f.write_str("unread bytes of a name section"),
-            Part::Hint => f.write_str("branch hint of no instruction"),
+            Part::Hint => f.write_str("unused branch hint"),
             Part::HintSection => f.write_str("malformed or replaced branch hints"),
         }
     }

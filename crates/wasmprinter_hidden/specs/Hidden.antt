@@ -1,7 +1,8 @@
 -- What the text of a module does not show: bytes that a shorter encoding of the same module does not have, sections without
--- entries, names of nothing, and hints of no operator. These are not among it: how locals are grouped, the data count, names
--- that a later name replaces, empty lists in custom sections, sections without data, a count of names that is greater than the
--- number of names, and longer numbers in the data of other custom sections than `name`.
+-- entries, names of nothing, and hints that no operator takes. Each part is compared by itself. These are not among it: how
+-- locals are grouped, and the data count; of custom sections, names that a later name replaces, the order of names and how they
+-- are divided, empty lists, sections without data, a count of names that is greater than the number of names, longer numbers in
+-- the data of others than `name`, and the places of sections that are not printed as such.
 use Rattle.std.specs.Prelude.{◌≡◌, ℕ, ◌+◌, ◌-◌, List, [], ◌∷◌, ◌++◌, length, map, drop, nat_lt, ◌==◌, if◌then◌else◌, codes, bytes_eq, Option, Some, None}
 use Rattle.wasmprinter_spec.specs.Grammar.{Input, input, Spans, Grammar, Placed, byte, seq, map_value, value_with_place}
 use Rattle.wasmprinter_spec.specs.Sized.{take_bytes}

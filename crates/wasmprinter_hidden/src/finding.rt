@@ -38,7 +38,7 @@ pub enum Part {
     NameOfNothing,
     /// Bytes of a name section that are not read.
     UnreadNames,
-    /// A branch hint that no instruction has.
+    /// A branch hint that no instruction takes. Hints are taken in order: one that is not taken blocks the later ones.
     Hint,
     /// The data of a section with branch hints that is malformed, or that a later section with branch hints replaces.
     HintSection,
@@ -52,7 +52,7 @@ pub struct Finding {
     /// The part.
     pub part: Part,
     /// The number of bytes that the shortest encoding of the part does not have. Of a section without entries, an unknown
-    /// subsection, a name of nothing and bytes that are not read, the number of all bytes; of a hint that no instruction
-    /// has, that of its shortest encoding.
+    /// subsection, a name of nothing, bytes that are not read and a hint section, the number of all bytes; of a hint, that
+    /// of its shortest encoding.
     pub extra: u64,
 }
