@@ -13,3 +13,7 @@ mod Operators
 mod SubTypes
 mod Types
 mod ValTypes
+mod OpenParts
+mod BodyParts
+mod SectionParts
+mod FunctionParts

@@ -5,3 +5,5 @@ pub mod Findings
 pub mod HiddenNames
 pub mod HiddenHints
 pub mod Hidden
+pub mod OpenParts
+pub mod Extents

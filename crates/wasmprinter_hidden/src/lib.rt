@@ -1,10 +1,18 @@
 //! What the text of a module does not show: where its bytes have a shorter encoding.
 #![tactic(auto)]
 
+mod body_findings;
 mod entry_lengths;
+mod entry_places;
 mod excess;
 pub mod finding;
+mod findings;
+mod function_findings;
+mod hidden_bytes;
 mod list_lengths;
 mod operator_lengths;
 pub mod shortest;
+mod section_extents;
+mod section_findings;
+mod section_ids;
 mod type_lengths;
