@@ -17,3 +17,4 @@ mod OpenParts
 mod BodyParts
 mod SectionParts
 mod FunctionParts
+mod SectionsLeft

@@ -1,11 +1,15 @@
 //! Finding what the text of a module does not show.
-ghost use Rattle.std.specs.Prelude.{◌≡◌, ◌++◌, ◌<◌, ◌^◌, drop, IfOk, OnOk};
+ghost use Rattle.std.specs.Prelude.{◌≡◌, ◌++◌, ◌<◌, ◌^◌, ◌⊎◌, ◌↔◌, drop, IfOk, IfErr, IsErrOf, IsOkUnless, OnOk};
 ghost use Rattle.std.specs.List.{AllByRecursion};
-ghost use Rattle.wasmprinter_spec.specs.Binary.{Spells};
+ghost use Rattle.wasmprinter_spec.specs.Binary.{IsComponent, Spells};
+ghost use Rattle.wasmprinter_spec.specs.Limits.{IsWithinLimits};
+ghost use Rattle.wasmprinter_spec.specs.Placed.{PlacedModule};
 ghost use Rattle.wasmprinter_spec.specs.Sections.{kind_of};
+ghost use Rattle.wasmprinter_decoder.specs.Decoding.{HasDecodingReason};
 ghost use Rattle.wasmprinter_hidden.specs.Lengths.{bytes_len};
 ghost use Rattle.wasmprinter_hidden.specs.OpenParts.{capped};
-ghost use Rattle.wasmprinter_hidden.specs.Hidden.{body_end, in_start_section, in_section, in_first_name, AreHidden};
+ghost use Rattle.wasmprinter_hidden.specs.Hidden.{body_end, in_start_section, in_section, AreHidden};
+ghost use Rattle.wasmprinter_hidden.specs.Extents.{in_name, customs_after};
 
 use crate::excess::unsigned_len;
 use crate::finding::{Finding, Part};
@@ -17,8 +21,10 @@ use crate::section_ids::{
     CODE, CUSTOM, DATA, DATA_COUNT, ELEMENT, EXPORT, FUNCTION, GLOBAL, IMPORT, MEMORY, START, TABLE,
     TAG, TYPE,
 };
-use std::alloc::AllocError;
-use wasmprinter_decoder::{CustomEntry, Fields, Module, Start};
+use std::alloc::{AllocError, Global};
+use wasmprinter_bytes::Error;
+use wasmprinter_bytes::cursor::Cursor;
+use wasmprinter_decoder::{CustomEntry, Fields, Module, Start, decode};
 
 /// Appends the findings in the start section.
 fn add_start_section(
@@ -75,21 +81,72 @@ fn name_len(name: &str) -> u64
     unsigned_len(len).saturating_add(len)
 }
 
-/// Appends the findings in the name of the first of these custom sections. Returns the custom sections after it.
-fn add_first_name<'c, 'a>(
+/// Appends the findings in the name of a section if it is a custom section. `before` is the number of custom sections
+/// before it. Returns the number of custom sections up to it.
+fn add_name(
     findings: &mut Findings,
-    customs: &'c [CustomEntry<'a>],
-) -> Result<&'c [CustomEntry<'a>], AllocError>
-    ensures { IfOk result (λ rest. (findings.new ≡ findings.old ++ in_first_name customs.now) × (rest.now ≡ drop 1 customs.now)) }
+    section: Extent,
+    customs: &[CustomEntry<'_>],
+    before: usize,
+) -> Result<usize, AllocError>
+    ensures { IfOk result (λ count. (findings.new ≡ findings.old ++ in_name section.id (drop before customs.now))
+        × (drop count customs.now ≡ customs_after section.id (drop before customs.now))) }
 {
-    let Some((first, rest)) = customs.split_first() else {
-        return Ok(customs);
+    if section.id != CUSTOM {
+        return Ok(before);
+    }
+    let Some(custom) = customs.get(before) else {
+        return Ok(before);
     };
     let name = OpenPart {
         part: Part::CustomName,
-        place: first.section.place(),
-        len: name_len(first.section.name()),
+        place: custom.section.place(),
+        len: name_len(custom.section.name()),
     };
-    findings.close(name, first.section.bytes_place())?;
-    Ok(rest)
+    findings.close(name, custom.section.bytes_place())?;
+    Ok(before + 1)
+}
+
+/// The number of bytes of the preamble of a module (section 5.5, "Modules").
+const PREAMBLE_LEN: usize = 8;
+
+/// Returns the findings in the sections of the module that the bytes encode.
+fn findings_in_sections(
+    alloc: Global,
+    wasm: &[u8],
+    module: &Module<'_>,
+) -> Result<Findings, AllocError>
+    requires { Spells wasm.now «module».now }
+    ensures { IfOk result (AreHidden wasm.now) }
+{
+    let mut findings = Findings::new(alloc);
+    let mut customs = 0;
+    let mut cursor = Cursor::new(PREAMBLE_LEN as u64, &wasm[PREAMBLE_LEN..]);
+    while let Ok(section) = Extent::read(&mut cursor) {
+        add_section(&mut findings, section, module)?;
+        customs = add_name(&mut findings, section, module.customs(), customs)?;
+    }
+    Ok(findings)
+}
+
+/// Returns what the text of a module does not show, in the order of the places. On `Ok`, the bytes encode a module, and
+/// the result lists each part of it that has more bytes than its shortest encoding, and each section without entries
+/// (`found`).
+///
+/// # Errors
+///
+/// The errors are those of [`decode`], for the reasons that it lists. `Memory` is also returned if the list cannot grow
+/// (`refused`).
+///
+/// - `Component` exactly if the bytes are marked as a component, as [`decode`] says (`component`).
+/// - If the bytes encode a module within the limits of [`decode`], only `Memory` is possible (`within`).
+pub fn hidden(alloc: Global, wasm: &[u8]) -> Result<Vec<Finding>, Error>
+    ensures found { IfOk result (λ list. AreHidden wasm.now list.items) }
+    ensures refused { IfErr result (λ e. (e ≡ Error.Memory) ⊎ HasDecodingReason wasm.now e) }
+    ensures component { IsErrOf result Error.Component ↔ IsComponent wasm.now }
+    ensures within { (m : PlacedModule) → Spells wasm.now m → IsWithinLimits m → IsOkUnless result Error.Memory }
+{
+    let module = decode(alloc, wasm)?;
+    let findings = findings_in_sections(alloc, wasm, &module)?;
+    Ok(findings.into_list())
 }
