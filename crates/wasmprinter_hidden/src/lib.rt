@@ -11,8 +11,10 @@ mod function_findings;
 mod hidden_bytes;
 mod list_lengths;
 mod operator_lengths;
-pub mod shortest;
 mod section_extents;
 mod section_findings;
 mod section_ids;
+pub mod shortest;
+#[cfg(test)]
+mod tests;
 mod type_lengths;
