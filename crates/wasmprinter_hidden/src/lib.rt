@@ -5,7 +5,7 @@ mod body_findings;
 mod entry_lengths;
 mod entry_places;
 mod excess;
-pub mod finding;
+mod finding;
 mod findings;
 mod function_findings;
 mod hidden_bytes;
@@ -18,3 +18,6 @@ pub mod shortest;
 #[cfg(test)]
 mod tests;
 mod type_lengths;
+
+pub use finding::{Finding, Part};
+pub use hidden_bytes::hidden;
