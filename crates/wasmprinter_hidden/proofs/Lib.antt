@@ -1,20 +1,21 @@
 -- Lemmas that the proofs of this crate share, and the laws on the shortest encodings.
+mod BodyParts
 mod Combinators
 mod Digits
 mod Entries
 mod Expressions
 mod ExternTypes
+mod FunctionParts
+mod HintParts
 mod Laws
 mod Lists
 mod Names
 mod Numbers
+mod OpenParts
 mod Operands
 mod Operators
+mod SectionParts
+mod SectionsLeft
 mod SubTypes
 mod Types
 mod ValTypes
-mod OpenParts
-mod BodyParts
-mod SectionParts
-mod FunctionParts
-mod SectionsLeft

@@ -3,7 +3,8 @@ use Rattle.std.proofs.Common.{◌≡◌, ℕ, ◌+◌, ◌-◌, ◌<◌, ◌≤�
 use Rattle.std.proofs.lemmas.Bool.{cases_lt, le-ltb, cond-false}
 use Rattle.std.proofs.lemmas.List.{at_drop_more, drop_all}
 use Rattle.wasmprinter_spec.specs.Grammar.{Placed}
-use Rattle.wasmprinter_hidden.specs.Hidden.{finding, if_longer, first_place, in_items}
+use Rattle.wasmprinter_hidden.specs.Findings.{finding, if_longer}
+use Rattle.wasmprinter_hidden.specs.Hidden.{first_place, in_items}
 use Rattle.wasmprinter_hidden.specs.OpenParts.{capped, open_part, lengths, in_open, in_run, HasRead}
 use Rattle.wasmprinter_hidden.specs.declared.finding.Part.{Part}
 use Rattle.wasmprinter_hidden.specs.declared.finding.Finding.{Finding}
@@ -42,12 +43,13 @@ module _ (part : Part) (old : List Finding) (first : OpenPart) (all : List (Plac
       let closed : in_open next (first_place xs end) ≡ if_longer part place (first_place xs end) len =
       ap (λ (o : OpenPart). in_open o (first_place xs end)) is_next ∙ if_longer-capped part place (first_place xs end) len le in
       let rest = in_items part (λ n. n) xs end in
-      let before = rw step at left end lt in
-      (before.0,
-      ap (λ (f : List Finding). f ++ in_run next part xs end) is_more
-      ∙ append_assoc found (in_open last place) (in_run next part xs end)
-      ∙ ap (λ (f : List Finding). found ++ (in_open last place ++ (f ++ rest))) closed
-      ∙ before.1)
+      let before = rw step at left end lt in (
+        before.0,
+        ap (λ (f : List Finding). f ++ in_run next part xs end) is_more
+            ∙ append_assoc found (in_open last place) (in_run next part xs end)
+            ∙ ap (λ (f : List Finding). found ++ (in_open last place ++ (f ++ rest))) closed
+            ∙ before.1,
+      )
 
   -- No item is left.
   pub left_none : (found : List Finding) (last : OpenPart) (ys : List (Placed ℕ)) → ys ≡ [] → HasLeft part old first all found last ys →

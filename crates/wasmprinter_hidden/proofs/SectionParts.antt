@@ -8,12 +8,13 @@ use Rattle.wasmprinter_spec.specs.Grammar.{Placed}
 use Rattle.wasmprinter_spec.specs.Placed.{PlacedModule}
 use Rattle.wasmprinter_spec.specs.Sections.{kind_of}
 use Rattle.wasmprinter_hidden.specs.Lengths.{unsigned_len}
-use Rattle.wasmprinter_hidden.specs.Hidden.{Extent, if_longer, in_items, in_size, in_list, in_entries, in_section}
-use Rattle.wasmprinter_hidden.specs.OpenParts.{lengths, in_open, in_run, HasRead}
+use Rattle.wasmprinter_hidden.specs.Findings.{if_longer}
+use Rattle.wasmprinter_hidden.specs.Hidden.{Extent, in_items, in_size, in_list, in_entries, in_section}
+use Rattle.wasmprinter_hidden.specs.OpenParts.{lengths, in_open, HasRead}
 use Rattle.wasmprinter_hidden.specs.declared.finding.Part.TheVariants.{Count, Entry}
 use Rattle.wasmprinter_hidden.specs.declared.finding.Finding.{Finding}
 use Rattle.wasmprinter_hidden.specs.declared.findings.OpenPart.{OpenPart}
-use Rattle.wasmprinter_hidden.proofs.OpenParts.{first_place-lengths, in_items-lengths}
+use Rattle.wasmprinter_hidden.proofs.OpenParts.{in_items-lengths}
 
 -- A list that is not empty has the findings of its size, its count and its entries.
 filled : (xs : List (Placed ℕ)) (x : Extent) → (xs ≡ [] → ⊥) →
@@ -38,9 +39,9 @@ module _ {A : Type 0} (len : A → ℕ) where
   entries_are (e ∷ es) x =
       let xs : List (Placed ℕ) = lengths (λ a. a.place) (λ a. len a.value) (e ∷ es) in
       ap (λ (n : ℕ). in_size x ++ (if_longer (Count x.id) x.contents e.place (unsigned_len n) ++ in_items (Entry x.id) (λ n. n) xs x.end))
-          (length-map (e ∷ es) (λ a. record { place = a.place; value = len a.value }))
+      (length-map (e ∷ es) (λ a. record { place = a.place; value = len a.value }))
       ∙ ap (λ (f : List Finding). in_size x ++ (if_longer (Count x.id) x.contents e.place (unsigned_len (length (e ∷ es))) ++ f))
-          (in_items-lengths len (Entry x.id) (e ∷ es) x.end)
+      (in_items-lengths len (Entry x.id) (e ∷ es) x.end)
 
   pub entries_found : (id : ℕ) (m : PlacedModule) (es ds : List (Placed A)) (x : Extent) (r : Result (Unit {0}) AllocError) (old found : List Finding) →
       x.id ≡ id → ds ≡ es → in_entries len es x ≡ in_section m (kind_of id) x →

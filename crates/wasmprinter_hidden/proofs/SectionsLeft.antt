@@ -1,8 +1,8 @@
 -- The sections of a module one after the other.
-use Rattle.std.specs.Prelude.{◌≡◌, ◌≢◌, ℕ, zero, suc, ◌+◌, ◌-◌, ◌<◌, ◌≤◌, ◌^◌, List, [], ◌∷◌, ◌++◌, Bool, true, false, ◌&&◌, drop, length, bytes_eq, Option, Some, None, if◌then◌else◌}
+use Rattle.std.specs.Prelude.{◌≡◌, ℕ, ◌+◌, ◌<◌, ◌≤◌, ◌^◌, List, [], ◌∷◌, ◌++◌, Bool, true, false, ◌&&◌, drop, length, bytes_eq, Option, Some, None, if◌then◌else◌}
 use Rattle.std.specs.List.{AllByRecursion, flat_map}
 use Rattle.std.proofs.Common.{refl, sym, ap, ◌∙◌, subst, arith, append_assoc, append-nil, zero-add, eqb}
-use Rattle.std.proofs.lemmas.List.{drop_at, length-append}
+use Rattle.std.proofs.lemmas.List.{drop_at}
 use Rattle.std.proofs.lemmas.Slice.Eq.{bytes_eq-Decides}
 use Rattle.wasmprinter_spec.specs.Apart.{Rises, locals_places, body_places, IsApart}
 use Rattle.wasmprinter_spec.specs.Binary.{Spells, preamble, preamble_bytes, bodies_in, datas_in, data_count_in, type_indices_in, counts_data, function_pairs, module_from}
@@ -14,8 +14,9 @@ use Rattle.wasmprinter_spec.specs.Repeated.{Entries}
 use Rattle.wasmprinter_spec.specs.Sections.{Section, section, kind_of, are_above}
 use Rattle.wasmprinter_laws.proofs.Lines.CodeSection.{apart}
 use Rattle.wasmprinter_laws.proofs.Lines.Indexes.{rises_each, rises_right}
-use Rattle.wasmprinter_hidden.specs.Extents.{extent_at, in_name, customs_after}
-use Rattle.wasmprinter_hidden.specs.Hidden.{any_section, Extent, extent, IsSection, AreExtents, none, next, HaveExtents, body_end, in_section, in_first_name, in_sections, AreHidden}
+use Rattle.wasmprinter_hidden.specs.Extents.{extent_at, in_custom, customs_after}
+use Rattle.wasmprinter_hidden.specs.Findings.{any_section}
+use Rattle.wasmprinter_hidden.specs.Hidden.{Extent, extent, IsSection, AreExtents, none, next, HaveExtents, body_end, in_section, in_first_custom, in_sections, AreHidden}
 use Rattle.wasmprinter_hidden.specs.declared.finding.Finding.{Finding}
 
 -- ---- A module is its preamble and sections
@@ -24,21 +25,28 @@ use Rattle.wasmprinter_hidden.specs.declared.finding.Finding.{Finding}
 raw : (p : ℕ) (text rest : List ℕ) (s : Section) → section.spells p text s →
     (id contents : ℕ) × IsSection (input p (text ++ rest)) (input (p + length text) rest) id contents
 raw p text rest s (kx, is_s, (t, u, joined, (id, of_kind, is_id), (y, is_x, (v, w, split, size, (len, content))))) =
-    let contents : ℕ = p + length t + length v in
-    (id, contents, (w, record {
-      text = text;
-      parts = refl;
-      ends = refl;
-      spelled = (t, u, joined, is_id, ((y.0, record { place = contents; value = w }), refl, (v, w, split, size, (refl, (len, refl)))));
-    }))
+    let contents : ℕ = p + length t + length v in (
+      id,
+      contents,
+      (
+        w,
+        record {
+          text = text;
+          parts = refl;
+          ends = refl;
+          spelled = (t, u, joined, is_id, ((y.0, record { place = contents; value = w }), refl, (v, w, split, size, (refl, (len, refl)))));
+        },
+      ),
+    )
 
 extents_of : (ss : List Section) (p : ℕ) (text : List ℕ) → Entries section p text ss → (xs : List Extent) × AreExtents (input p text) xs
 extents_of [] p text e = ([], subst (λ (t : List ℕ). AreExtents (input p t) []) (sym e) (none {place = p}))
 extents_of (s ∷ ss) p text (t, u, joined, takes, spelled, entries) =
     let (id, contents, is) = raw p t u s spelled in
-    let (xs, are) = extents_of ss (p + length t) u entries in
-    (extent p id contents (p + length t) ∷ xs,
-    subst (λ (bytes : List ℕ). AreExtents (input p bytes) (extent p id contents (p + length t) ∷ xs)) (sym joined) (next is are))
+    let (xs, are) = extents_of ss (p + length t) u entries in (
+      extent p id contents (p + length t) ∷ xs,
+      subst (λ (bytes : List ℕ). AreExtents (input p bytes) (extent p id contents (p + length t) ∷ xs)) (sym joined) (next is are),
+    )
 
 preamble_is : (text bytes : List ℕ) → preamble.spells 0 text bytes → text ≡ preamble_bytes
 preamble_is text bytes (a, e, (len, same)) =
@@ -98,31 +106,31 @@ sections_all wasm m at customs found spells is_at is_customs is_found =
       };
     }
 
--- The findings in a section, in its name, and in the sections after it.
+-- The findings in a section, in it as a custom section, and in the sections after it.
 in_next : (m : PlacedModule) (customs : List CustomEntry) (x : Extent) (xs : List Extent) →
-    in_sections m customs (x ∷ xs) ≡ in_section m (kind_of x.id) x ++ (in_name x.id customs ++ in_sections m (customs_after x.id customs) xs)
+    in_sections m customs (x ∷ xs) ≡ in_section m (kind_of x.id) x ++ (in_custom m x.id customs ++ in_sections m (customs_after x.id customs) xs)
 in_next m customs x xs =
     let here : List Finding = in_section m (kind_of x.id) x in
-    let by : (b : Bool) → here ++ (if b then in_first_name customs ++ in_sections m (drop 1 customs) xs else in_sections m customs xs)
-        ≡ here ++ ((if b then in_first_name customs else []) ++ in_sections m (if b then drop 1 customs else customs) xs) =
+    let by : (b : Bool) → here ++ (if b then in_first_custom m customs ++ in_sections m (drop 1 customs) xs else in_sections m customs xs)
+    ≡ here ++ ((if b then in_first_custom m customs else []) ++ in_sections m (if b then drop 1 customs else customs) xs) =
     elim [ true ↦ refl | false ↦ refl ] in
     by (eqb x.id 0)
 
 -- A section is read.
 pub sections_more : (wasm : List ℕ) (m : PlacedModule) (at after : Input) (customs others : List CustomEntry) (found mid more : List Finding) (x : Extent) →
-    extent_at at ≡ Some (x, after) → mid ≡ found ++ in_section m (kind_of x.id) x → more ≡ mid ++ in_name x.id customs →
+    extent_at at ≡ Some (x, after) → mid ≡ found ++ in_section m (kind_of x.id) x → more ≡ mid ++ in_custom m x.id customs →
     others ≡ customs_after x.id customs → HasSectionsLeft wasm m at customs found → HasSectionsLeft wasm m after others more
 sections_more wasm m at after customs others found mid more x read is_mid is_more are_others h =
     let (rest, are_first, are) = first_read at after x h.left read h.are in
     let here : List Finding = in_section m (kind_of x.id) x in
-    let name : List Finding = in_name x.id customs in
+    let custom : List Finding = in_custom m x.id customs in
     let later : List Finding = in_sections m (customs_after x.id customs) rest in
     let same : found ++ in_sections m customs h.left ≡ more ++ in_sections m others rest =
     ap (λ (xs : List Extent). found ++ in_sections m customs xs) are_first
     ∙ ap (λ (f : List Finding). found ++ f) (in_next m customs x rest)
-    ∙ sym (append_assoc found here (name ++ later))
-    ∙ ap (λ (f : List Finding). f ++ (name ++ later)) (sym is_mid)
-    ∙ sym (append_assoc mid name later)
+    ∙ sym (append_assoc found here (custom ++ later))
+    ∙ ap (λ (f : List Finding). f ++ (custom ++ later)) (sym is_mid)
+    ∙ sym (append_assoc mid custom later)
     ∙ ap (λ (f : List Finding). f ++ later) (sym is_more)
     ∙ ap (λ (cs : List CustomEntry). more ++ in_sections m cs rest) (sym are_others) in
     record { left = rest; are = are; hidden = subst (AreHidden wasm) same h.hidden }

@@ -1,7 +1,7 @@
 -- What the text of a module does not show of a name section (appendix "Name Section" of the standard, and the extended name
 -- section proposal): names of nothing, subsections with an unknown id, bytes that are not read, and numbers with more bytes
 -- than needed.
-use Rattle.std.specs.Prelude.{ℕ, zero, suc, ◌+◌, ◌-◌, List, [], ◌∷◌, ◌++◌, length, map, Bool, true, false, ◌==◌, nat_lt, if◌then◌else◌, Option, Some, None, slice_get, unwrap_or, option_map}
+use Rattle.std.specs.Prelude.{ℕ, zero, suc, ◌+◌, ◌-◌, List, [], ◌∷◌, ◌++◌, length, map, Bool, true, false, ◌&&◌, ◌==◌, nat_lt, if◌then◌else◌, Option, Some, None, slice_get, unwrap_or, option_map}
 use Rattle.std.specs.List.{filter}
 use Rattle.wasmprinter_spec.specs.Grammar.{Input, input, Placed, ◌>>=◌}
 use Rattle.wasmprinter_spec.specs.Repeated.{some_or}
@@ -170,9 +170,9 @@ subsection m at =
 abbrev pub next_subsection : PlacedModule → Input → Reading
 next_subsection m at = if length at.bytes == 0 then reading [] at false else subsection m at
 
--- What is not read before the place `end`, if reading stopped.
+-- What is not read before the place `end`, if reading stopped before it.
 abbrev pub after_stop : Reading → ℕ → List Finding
-after_stop r end = if r.stopped then finding r.left.place UnreadNames (end - r.left.place) ∷ [] else []
+after_stop r end = if r.stopped && nat_lt r.left.place end then finding r.left.place UnreadNames (end - r.left.place) ∷ [] else []
 
 -- The findings in the data of a name section. Each subsection takes a byte or more.
 abbrev pub in_names : PlacedModule → Placed (List ℕ) → List Finding

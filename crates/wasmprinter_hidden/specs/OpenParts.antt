@@ -1,7 +1,8 @@
 -- Parts of a module that are read one after the other. The place where a part ends is known once the next part is read.
 use Rattle.std.specs.Prelude.{◌≡◌, ℕ, ◌<◌, ◌-◌, ◌^◌, List, ◌++◌, map, min}
 use Rattle.wasmprinter_spec.specs.Grammar.{Placed}
-use Rattle.wasmprinter_hidden.specs.Hidden.{if_longer, first_place, in_items}
+use Rattle.wasmprinter_hidden.specs.Findings.{if_longer}
+use Rattle.wasmprinter_hidden.specs.Hidden.{first_place, in_items}
 use Rattle.wasmprinter_hidden.specs.declared.finding.Part.{Part}
 use Rattle.wasmprinter_hidden.specs.declared.finding.Finding.{Finding}
 use Rattle.wasmprinter_hidden.specs.declared.findings.OpenPart.{OpenPart}
@@ -17,6 +18,14 @@ open_part part place len = record { part = part; place = place; len = capped len
 -- The place of each item, with the number of bytes of the item's shortest encoding.
 abbrev pub lengths : {A : Type 0} → (A → ℕ) → (A → ℕ) → List A → List (Placed ℕ)
 lengths place len xs = map (λ x. record { place = place x; value = len x }) xs
+
+-- The places and lengths of groups of locals.
+abbrev pub lengths_of_groups : List (Placed LocalEntry) → List (Placed ℕ)
+lengths_of_groups es = lengths (λ e. e.place) (λ e. local_entry_len e.value) es
+
+-- The places and lengths of operators.
+abbrev pub lengths_of_operators : List (Placed Operator) → List (Placed ℕ)
+lengths_of_operators os = lengths (λ o. o.place) (λ o. operator_len o.value) os
 
 -- The findings in the part if it ends here.
 abbrev pub in_open : OpenPart → ℕ → List Finding

@@ -1,8 +1,7 @@
 //! Findings in the bodies of functions (section 5.5 of the WebAssembly Core Specification, "Code Section").
 ghost use Rattle.std.specs.Prelude.{◌≡◌, ◌++◌, IfOk, OnOk};
-ghost use Rattle.wasmprinter_hidden.specs.Lengths.{local_entry_len, operator_len};
 ghost use Rattle.wasmprinter_hidden.specs.Hidden.{in_body};
-ghost use Rattle.wasmprinter_hidden.specs.OpenParts.{lengths, HasRead};
+ghost use Rattle.wasmprinter_hidden.specs.OpenParts.{lengths_of_groups, lengths_of_operators, HasRead};
 ghost use Rattle.wasmprinter_hidden.specs.declared.finding.Part.TheVariants.{LocalGroup, Instruction};
 
 use crate::finding::Part;
@@ -17,7 +16,8 @@ fn add_locals(
     first: OpenPart,
     locals: &Locals<'_>,
 ) -> Result<OpenPart, AllocError>
-    ensures { IfOk result (HasRead LocalGroup findings.old first (lengths (λ e. e.place) (λ e. local_entry_len e.value) locals.now) findings.new) }
+    ensures { IfOk result (HasRead LocalGroup findings.old first
+        (lengths_of_groups locals.now) findings.new) }
 {
     let mut last = first;
     for entry in locals.iter() {
@@ -35,7 +35,8 @@ fn add_operators(
     first: OpenPart,
     body: &Body<'_>,
 ) -> Result<OpenPart, AllocError>
-    ensures { IfOk result (HasRead Instruction findings.old first (lengths (λ o. o.place) (λ o. operator_len o.value) body.now.value.operators) findings.new) }
+    ensures { IfOk result (HasRead Instruction findings.old first
+        (lengths_of_operators body.now.value.operators) findings.new) }
 {
     let mut last = first;
     for (place, operator) in body.operators() {

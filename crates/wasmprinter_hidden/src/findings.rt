@@ -1,6 +1,6 @@
 //! Lists of findings in parts of a module that follow each other.
 ghost use Rattle.std.specs.Prelude.{◌≡◌, ◌++◌, ◌∷◌, [], IfOk, OnOk};
-ghost use Rattle.wasmprinter_hidden.specs.Hidden.{finding};
+ghost use Rattle.wasmprinter_hidden.specs.Findings.{finding};
 ghost use Rattle.wasmprinter_hidden.specs.OpenParts.{capped, open_part, lengths, in_open, HasRead};
 
 use crate::excess::{Excess, Shortest};

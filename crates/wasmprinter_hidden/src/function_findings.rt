@@ -32,7 +32,8 @@ pub(crate) fn add_function_section(
     section: Extent,
     module: &Module<'_>,
 ) -> Result<(), AllocError>
-    ensures { OnOk result (findings.new ≡ findings.old ++ in_function_section «module».now.functions section) }
+    ensures { OnOk result (findings.new
+        ≡ findings.old ++ in_function_section «module».now.functions section) }
 {
     if module.function_count() == 0 {
         return add_empty_section(findings, section);
@@ -47,7 +48,8 @@ pub(crate) fn add_code_section(
     module: &Module<'_>,
 ) -> Result<(), AllocError>
     requires { AllByRecursion (λ f. body_end f < 2 ^ 64) «module».now.functions }
-    ensures { OnOk result (findings.new ≡ findings.old ++ in_code_section «module».now.functions section) }
+    ensures { OnOk result (findings.new
+        ≡ findings.old ++ in_code_section «module».now.functions section) }
 {
     let count = module.function_count();
     if count == 0 {

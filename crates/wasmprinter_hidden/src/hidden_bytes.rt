@@ -1,25 +1,26 @@
 //! Finding what the text of a module does not show.
-ghost use Rattle.std.specs.Prelude.{◌≡◌, ◌++◌, ◌<◌, ◌^◌, ◌⊎◌, ◌↔◌, drop, IfOk, IfErr, IsErrOf, IsOkUnless, OnOk};
+ghost use Rattle.std.specs.Prelude.{◌≡◌, ◌++◌, ◌<◌, ◌^◌, ◌⊎◌, ◌↔◌, drop, IfOk, IfErr, IsErrOf};
+ghost use Rattle.std.specs.Prelude.{IsOkUnless, OnOk};
 ghost use Rattle.std.specs.List.{AllByRecursion};
 ghost use Rattle.wasmprinter_spec.specs.Binary.{IsComponent, Spells};
 ghost use Rattle.wasmprinter_spec.specs.Limits.{IsWithinLimits};
 ghost use Rattle.wasmprinter_spec.specs.Placed.{PlacedModule};
 ghost use Rattle.wasmprinter_spec.specs.Sections.{kind_of};
 ghost use Rattle.wasmprinter_decoder.specs.Decoding.{HasDecodingReason};
-ghost use Rattle.wasmprinter_hidden.specs.Lengths.{bytes_len};
-ghost use Rattle.wasmprinter_hidden.specs.OpenParts.{capped};
 ghost use Rattle.wasmprinter_hidden.specs.Hidden.{body_end, in_start_section, in_section, AreHidden};
-ghost use Rattle.wasmprinter_hidden.specs.Extents.{in_name, customs_after};
+ghost use Rattle.wasmprinter_hidden.specs.Extents.{in_custom, customs_after};
 
+use crate::custom_findings::add_custom_section;
 use crate::excess::unsigned_len;
-use crate::finding::{Finding, Part};
-use crate::findings::{Findings, OpenPart};
+use crate::finding::Finding;
+use crate::findings::Findings;
 use crate::function_findings::{add_code_section, add_function_section};
+use crate::name_counts::NameCounts;
 use crate::section_extents::Extent;
 use crate::section_findings::{add_contents, add_entries, add_size};
 use crate::section_ids::{
-    CODE, CUSTOM, DATA, DATA_COUNT, ELEMENT, EXPORT, FUNCTION, GLOBAL, IMPORT, MEMORY, START, TABLE,
-    TAG, TYPE,
+    CODE, CUSTOM, DATA, DATA_COUNT, ELEMENT, EXPORT, FUNCTION, GLOBAL, IMPORT, MEMORY, START,
+    TABLE, TAG, TYPE,
 };
 use std::alloc::{AllocError, Global};
 use wasmprinter_bytes::Error;
@@ -49,7 +50,8 @@ fn add_section(
     module: &Module<'_>,
 ) -> Result<(), AllocError>
     requires { AllByRecursion (λ f. body_end f < 2 ^ 64) «module».now.functions }
-    ensures { OnOk result (findings.new ≡ findings.old ++ in_section «module».now (kind_of section.id) section) }
+    ensures { OnOk result (findings.new
+        ≡ findings.old ++ in_section «module».now (kind_of section.id) section) }
 {
     match section.id {
         CUSTOM => add_size(findings, section),
@@ -73,24 +75,19 @@ fn add_section(
     }
 }
 
-/// Returns the number of bytes of the shortest encoding of a name, or `u64::MAX` if that number is greater.
-fn name_len(name: &str) -> u64
-    ensures { result ≡ capped (bytes_len name.now) }
-{
-    let len = name.len() as u64;
-    unsigned_len(len).saturating_add(len)
-}
-
-/// Appends the findings in the name of a section if it is a custom section. `before` is the number of custom sections
-/// before it. Returns the number of custom sections up to it.
-fn add_name(
+/// Appends the findings in a section if it is a custom section. `before` is the number of custom sections before it.
+/// Returns the number of custom sections up to it.
+fn add_custom(
+    alloc: Global,
     findings: &mut Findings,
     section: Extent,
+    counts: &NameCounts<'_, '_>,
     customs: &[CustomEntry<'_>],
     before: usize,
 ) -> Result<usize, AllocError>
-    ensures { IfOk result (λ count. (findings.new ≡ findings.old ++ in_name section.id (drop before customs.now))
-        × (drop count customs.now ≡ customs_after section.id (drop before customs.now))) }
+    ensures { IfOk result (λ count. let left = drop before customs.now in
+        (findings.new ≡ findings.old ++ in_custom counts.now section.id left)
+        × (drop count customs.now ≡ customs_after section.id left)) }
 {
     if section.id != CUSTOM {
         return Ok(before);
@@ -98,13 +95,9 @@ fn add_name(
     let Some(custom) = customs.get(before) else {
         return Ok(before);
     };
-    let name = OpenPart {
-        part: Part::CustomName,
-        place: custom.section.place(),
-        len: name_len(custom.section.name()),
-    };
-    findings.close(name, custom.section.bytes_place())?;
-    Ok(before + 1)
+    let count = before + 1;
+    add_custom_section(alloc, findings, counts, &customs[count..], &custom.section)?;
+    Ok(count)
 }
 
 /// The number of bytes of the preamble of a module (section 5.5, "Modules").
@@ -120,18 +113,27 @@ fn findings_in_sections(
     ensures { IfOk result (AreHidden wasm.now) }
 {
     let mut findings = Findings::new(alloc);
+    let counts = NameCounts::new(alloc, module)?;
     let mut customs = 0;
     let mut cursor = Cursor::new(PREAMBLE_LEN as u64, &wasm[PREAMBLE_LEN..]);
     while let Ok(section) = Extent::read(&mut cursor) {
         add_section(&mut findings, section, module)?;
-        customs = add_name(&mut findings, section, module.customs(), customs)?;
+        customs = add_custom(
+            alloc,
+            &mut findings,
+            section,
+            &counts,
+            module.customs(),
+            customs,
+        )?;
     }
     Ok(findings)
 }
 
-/// Returns what the text of a module does not show, in the order of the places. On `Ok`, the bytes encode a module, and
-/// the result lists each part of it that has more bytes than its shortest encoding, and each section without entries
-/// (`found`).
+/// Returns what the text of a module does not show. On `Ok`, the bytes encode a module, and the result lists each part of
+/// it that has more bytes than its shortest encoding ([`lengths_are_shortest`](crate::shortest::lengths_are_shortest)),
+/// each section without entries, and names and branch hints of nothing (`found`). Parts of one section follow each other
+/// in the order of their places, as the sections do.
 ///
 /// # Errors
 ///
@@ -144,7 +146,8 @@ pub fn hidden(alloc: Global, wasm: &[u8]) -> Result<Vec<Finding>, Error>
     ensures found { IfOk result (λ list. AreHidden wasm.now list.items) }
     ensures refused { IfErr result (λ e. (e ≡ Error.Memory) ⊎ HasDecodingReason wasm.now e) }
     ensures component { IsErrOf result Error.Component ↔ IsComponent wasm.now }
-    ensures within { (m : PlacedModule) → Spells wasm.now m → IsWithinLimits m → IsOkUnless result Error.Memory }
+    ensures within { (m : PlacedModule) → Spells wasm.now m → IsWithinLimits m
+        → IsOkUnless result Error.Memory }
 {
     let module = decode(alloc, wasm)?;
     let findings = findings_in_sections(alloc, wasm, &module)?;

@@ -2,14 +2,21 @@
 #![tactic(auto)]
 
 mod body_findings;
+mod custom_findings;
 mod entry_lengths;
 mod entry_places;
 mod excess;
-mod finding;
+pub mod finding;
 mod findings;
 mod function_findings;
 mod hidden_bytes;
+mod hint_entries;
+mod hint_findings;
 mod list_lengths;
+mod name_counts;
+mod name_entries;
+mod name_findings;
+mod name_subsections;
 mod operator_lengths;
 mod section_extents;
 mod section_findings;
@@ -19,5 +26,4 @@ pub mod shortest;
 mod tests;
 mod type_lengths;
 
-pub use finding::{Finding, Part};
 pub use hidden_bytes::hidden;

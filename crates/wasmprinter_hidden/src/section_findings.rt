@@ -10,10 +10,7 @@ use crate::section_extents::Extent;
 use std::alloc::AllocError;
 
 /// Appends the finding that a section has no entries.
-pub(crate) fn add_empty_section(
-    findings: &mut Findings,
-    section: Extent,
-) -> Result<(), AllocError>
+pub(crate) fn add_empty_section(findings: &mut Findings, section: Extent) -> Result<(), AllocError>
     ensures { OnOk result (findings.new ≡ findings.old ++ empty_section section) }
 {
     let bytes = section.end.saturating_sub(section.place);
@@ -33,7 +30,11 @@ pub(crate) fn add_size(findings: &mut Findings, section: Extent) -> Result<(), A
 }
 
 /// Appends the findings in a section whose contents are one part. `len` is the number of bytes of their shortest encoding.
-pub(crate) fn add_contents(findings: &mut Findings, section: Extent, len: u64) -> Result<(), AllocError>
+pub(crate) fn add_contents(
+    findings: &mut Findings,
+    section: Extent,
+    len: u64,
+) -> Result<(), AllocError>
     ensures { OnOk result (findings.new ≡ findings.old ++ in_contents section len) }
 {
     add_size(findings, section)?;
@@ -51,7 +52,8 @@ pub(crate) fn add_entries<T: Entry>(
     section: Extent,
     entries: &[T],
 ) -> Result<(), AllocError>
-    ensures { OnOk result (findings.new ≡ findings.old ++ in_entries (λ n. n) (lengths T.place T.len entries.now) section) }
+    ensures { OnOk result (findings.new
+        ≡ findings.old ++ in_entries (λ n. n) (lengths T.place T.len entries.now) section) }
 {
     if entries.is_empty() {
         return add_empty_section(findings, section);

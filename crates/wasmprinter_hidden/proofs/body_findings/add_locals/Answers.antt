@@ -1,20 +1,20 @@
 use Rattle.std.proofs.Common.{◌≡◌, ℕ, ◌∷◌, ap, sym, ◌∙◌, arith}
 use Rattle.wasmprinter_hidden.specs.Lengths.{local_entry_len}
 use Rattle.wasmprinter_hidden.specs.declared.finding.Part.TheVariants.{LocalGroup}
-use Rattle.wasmprinter_hidden.proofs.BodyParts.{groups}
+use Rattle.wasmprinter_hidden.specs.OpenParts.{lengths_of_groups}
 use Rattle.wasmprinter_hidden.proofs.OpenParts.{left_more, left_none}
 use Rattle.wasmprinter_hidden.proofs.body_findings.add_locals.Goals as goal
 
 pub loop-entry-preserved : goal.loop-entry-preserved
 loop-entry-preserved c =
     let entry = c.in-Some.entry in
-    let step : groups c.loop-entry.entry-iterator ≡ record { place = c.place-place.result; value = local_entry_len entry.value } ∷ groups c.next.new.self =
-    ap groups c.in-Some.ensures.steps ∙ ap (λ (p : ℕ). record { place = p; value = local_entry_len entry.value } ∷ groups c.next.new.self) (sym c.place-place.ensures) in
-    left_more LocalGroup c.args.findings.now c.args.first (groups c.args.locals.now) c.loop-entry.findings c.close.new.self c.loop-entry.last c.of_item-last.result
-    c.place-place.result (local_entry_len entry.value) (groups c.loop-entry.entry-iterator) (groups c.next.new.self)
+    let step : lengths_of_groups c.loop-entry.entry-iterator ≡ record { place = c.place-place.result; value = local_entry_len entry.value } ∷ lengths_of_groups c.next.new.self =
+    ap lengths_of_groups c.in-Some.ensures.steps ∙ ap (λ (p : ℕ). record { place = p; value = local_entry_len entry.value } ∷ lengths_of_groups c.next.new.self) (sym c.place-place.ensures) in
+    left_more LocalGroup c.args.findings.now c.args.first (lengths_of_groups c.args.locals.now) c.loop-entry.findings c.close.new.self c.loop-entry.last c.of_item-last.result
+    c.place-place.result (local_entry_len entry.value) (lengths_of_groups c.loop-entry.entry-iterator) (lengths_of_groups c.next.new.self)
     (omega arith) c.in_ok-close.ensures c.of_item-last.ensures step c.loop-entry.invariant
 
 pub returns : goal.returns
 returns c =
-    left_none LocalGroup c.args.findings.now c.args.first (groups c.args.locals.now) c.loop-entry.findings c.loop-entry.last (groups c.loop-entry.entry-iterator)
-    (ap groups c.in-None.ensures.steps.0) c.loop-entry.invariant
+    left_none LocalGroup c.args.findings.now c.args.first (lengths_of_groups c.args.locals.now) c.loop-entry.findings c.loop-entry.last (lengths_of_groups c.loop-entry.entry-iterator)
+    (ap lengths_of_groups c.in-None.ensures.steps.0) c.loop-entry.invariant

@@ -1,7 +1,6 @@
-use Rattle.std.proofs.Common.{◌≡◌, ◌++◌, ◌<◌, ◌^◌, refl, drop, length, List, ap, subst, ◌∙◌, arith}
+use Rattle.std.proofs.Common.{refl, drop, ap, ◌∙◌, arith}
 use Rattle.std.proofs.lemmas.List.{take_rest}
 use Rattle.wasmprinter_spec.specs.Grammar.{input}
-use Rattle.wasmprinter_hidden.specs.Extents.{in_name, customs_after}
 use Rattle.wasmprinter_hidden.proofs.SectionsLeft.{ends_fit, sections_all, sections_more, sections_none}
 use Rattle.wasmprinter_hidden.proofs.hidden_bytes.findings_in_sections.Goals as goal
 
@@ -20,7 +19,7 @@ loop-section-preserved c =
     let x = c.in-Ok.section in
     let named = rw c.customs.ensures at c.in_ok-customs.ensures in
     sections_more c.args.wasm.now m c.loop-section.cursor c.read.new.cursor (drop c.loop-section.customs m.customs) (drop c.in_ok-customs.customs m.customs)
-    c.loop-section.findings c.add_section.new.findings c.add_name.new.findings x c.in-Ok.ensures.reads.reads c.in_ok-add_section.ensures named.0 named.1 c.loop-section.invariant
+    c.loop-section.findings c.add_section.new.findings c.add_custom.new.findings x c.in-Ok.ensures.reads.reads c.in_ok-add_section.ensures named.0 named.1 c.loop-section.invariant
 
 pub returns : goal.returns
 returns c =

@@ -1,0 +1,73 @@
+//! Findings in custom sections (section 5.5 of the WebAssembly Core Specification, "Custom Section").
+ghost use Rattle.std.specs.Prelude.{◌≡◌, ◌++◌, OnOk, ◌∷◌};
+ghost use Rattle.wasmprinter_hidden.specs.Findings.{if_longer};
+ghost use Rattle.wasmprinter_hidden.specs.Hidden.{in_data};
+ghost use Rattle.wasmprinter_hidden.specs.Lengths.{bytes_len};
+ghost use Rattle.wasmprinter_hidden.specs.OpenParts.{capped};
+ghost use Rattle.wasmprinter_hidden.specs.declared.finding.Part.TheVariants.{CustomName};
+
+use crate::excess::unsigned_len;
+use crate::finding::Part;
+use crate::findings::{Findings, OpenPart};
+use crate::hint_findings::add_hint_section;
+use crate::name_counts::NameCounts;
+use crate::name_findings::add_names;
+use std::alloc::{AllocError, Global};
+use wasmprinter_custom::is_hint_section;
+use wasmprinter_decoder::{Custom, CustomEntry};
+
+/// Returns the number of bytes of the shortest encoding of a name, or `u64::MAX` if that number is greater.
+fn name_len(name: &str) -> u64
+    ensures { result ≡ capped (bytes_len name.now) }
+{
+    let len = name.len() as u64;
+    unsigned_len(len).saturating_add(len)
+}
+
+/// Appends the finding in the name of a custom section.
+fn add_name(findings: &mut Findings, section: &Custom<'_>) -> Result<(), AllocError>
+    ensures { OnOk result (findings.new ≡ findings.old
+        ++ if_longer CustomName section.now.place section.now.value.bytes.place (bytes_len section.now.value.name)) }
+{
+    let name = OpenPart {
+        part: Part::CustomName,
+        place: section.place(),
+        len: name_len(section.name()),
+    };
+    findings.close(name, section.bytes_place())
+}
+
+/// Appends the findings in the data of a custom section, by its name. `later` are the custom sections after it.
+fn add_data(
+    alloc: Global,
+    findings: &mut Findings,
+    counts: &NameCounts<'_, '_>,
+    later: &[CustomEntry<'_>],
+    section: &Custom<'_>,
+) -> Result<(), AllocError>
+    ensures { OnOk result (findings.new ≡ findings.old ++ in_data counts.now later.now section.now.value) }
+{
+    if section.is_name_section() {
+        add_names(findings, counts, section)
+    } else if is_hint_section(section.name()) {
+        add_hint_section(alloc, findings, counts.module(), later, section)
+    } else {
+        Ok(())
+    }
+}
+
+/// Appends the findings in a custom section: in its name, and in its data. `later` are the custom sections after it.
+pub(crate) fn add_custom_section(
+    alloc: Global,
+    findings: &mut Findings,
+    counts: &NameCounts<'_, '_>,
+    later: &[CustomEntry<'_>],
+    section: &Custom<'_>,
+) -> Result<(), AllocError>
+    ensures { OnOk result (findings.new ≡ findings.old
+        ++ (if_longer CustomName section.now.place section.now.value.bytes.place (bytes_len section.now.value.name)
+        ++ in_data counts.now later.now section.now.value)) }
+{
+    add_name(findings, section)?;
+    add_data(alloc, findings, counts, later, section)
+}
