@@ -7,3 +7,5 @@ pub mod HiddenHints
 pub mod Hidden
 pub mod OpenParts
 pub mod Extents
+pub mod NameCounts
+pub mod NameReadings

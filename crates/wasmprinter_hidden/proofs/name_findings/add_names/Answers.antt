@@ -1,0 +1,35 @@
+use Rattle.std.proofs.Common.{◌≡◌, ◌-◌, ◌++◌, ◌∷◌, [], ℕ, List, Bool, true, false, refl, ap, subst, ◌∙◌, arith}
+use Rattle.std.proofs.lemmas.Result.{on_ok_weaker}
+use Rattle.wasmprinter_hidden.specs.Findings.{finding}
+use Rattle.wasmprinter_hidden.specs.declared.finding.Part.TheVariants.{UnreadNames}
+use Rattle.wasmprinter_hidden.proofs.NameReading.{subsections_more, subsections_stop, subsections_end, names_read, names_stopped}
+use Rattle.wasmprinter_hidden.proofs.name_findings.add_names.Goals as goal
+
+pub returns-then-branch : goal.returns-then-branch
+returns-then-branch c =
+    let m = c.args.counts.now in
+    let start = c.args.section in
+    let old = c.args.findings.now in
+    let after = c.read_subsection.new.cursor in
+    let now = c.read_subsection.new.findings in
+    let extra : c.saturating_sub.result ≡ c.end-end.result - after.place = omega (arith, c.place-place.ensures) in
+    let all =
+    subsections_stop m start old c.subsections.cursor c.subsections.findings after now (λ none. let t = c.subsections-test.ensures.1 none in cc)
+    c.subsections.invariant (rw c.if-branch.true at c.in_ok-read_subsection.ensures.reads) in
+    on_ok_weaker c.push.result
+    (λ e. names_stopped m start after old now c.push.new.self c.end-end.result c.end-end.ensures all
+    (e ∙ ap (λ (p : ℕ). now ++ finding p UnreadNames c.saturating_sub.result ∷ []) c.place-place.ensures
+    ∙ ap (λ (n : ℕ). now ++ finding after.place UnreadNames n ∷ []) extra))
+    c.push.ensures
+
+pub subsections-preserved : goal.subsections-preserved
+subsections-preserved c =
+    subsections_more c.args.counts.now c.args.section c.args.findings.now c.subsections.cursor c.subsections.findings c.read_subsection.new.cursor
+    c.read_subsection.new.findings (λ none. let t = c.subsections-test.ensures.1 none in cc) c.subsections.invariant
+    (rw c.if-branch.false at c.in_ok-read_subsection.ensures.reads) (c.in_ok-read_subsection.ensures.advances c.if-branch.false)
+
+pub returns : goal.returns
+returns c =
+    names_read c.args.counts.now c.args.section c.subsections.cursor c.args.findings.now c.subsections.findings
+    (subsections_end c.args.counts.now c.args.section c.args.findings.now c.subsections.cursor c.subsections.findings
+    (c.subsections-test.ensures.0 refl) c.subsections.invariant)
