@@ -7,7 +7,7 @@ use Rattle.wasmprinter_ops.specs.Operators.{pairs}
 use Rattle.wasmprinter_hidden.specs.Lengths.{unsigned_len, local_entry_len, operator_len}
 use Rattle.wasmprinter_hidden.specs.Findings.{if_longer}
 use Rattle.wasmprinter_hidden.specs.Hidden.{first_place, in_items, in_list, in_body}
-use Rattle.wasmprinter_hidden.specs.OpenParts.{open_part, lengths, in_open, HasRead}
+use Rattle.wasmprinter_hidden.specs.OpenParts.{open_part, lengths, lengths_of_groups, lengths_of_operators, in_open, HasRead}
 use Rattle.wasmprinter_hidden.specs.declared.finding.Part.TheVariants.{LocalCount, LocalGroup, Instruction}
 use Rattle.wasmprinter_hidden.specs.declared.finding.Finding.{Finding}
 use Rattle.wasmprinter_hidden.specs.declared.findings.OpenPart.{OpenPart}

@@ -9,8 +9,9 @@ use Rattle.wasmprinter_spec.specs.Grammar.{some_is}
 use Rattle.wasmprinter_spec.specs.Placed.{PlacedFunction}
 use Rattle.wasmprinter_hidden.specs.Lengths.{digits, unsigned_len, items_len, list_len}
 use Rattle.wasmprinter_hidden.specs.Findings.{if_longer}
-use Rattle.wasmprinter_hidden.specs.Hidden.{body_end, body_size, in_body, in_bodies}
-use Rattle.wasmprinter_hidden.specs.declared.finding.Part.TheVariants.{BodySize}
+use Rattle.wasmprinter_hidden.specs.Hidden.{Extent, body_end, body_size, in_body, in_bodies, in_size, in_code_section}
+use Rattle.wasmprinter_hidden.specs.OpenParts.{in_open}
+use Rattle.wasmprinter_hidden.specs.declared.finding.Part.TheVariants.{BodySize, Count}
 use Rattle.wasmprinter_hidden.specs.declared.finding.Finding.{Finding}
 use Rattle.wasmprinter_hidden.specs.declared.findings.OpenPart.{OpenPart}
 

@@ -63,7 +63,7 @@ module_extents wasm m spells =
 -- ---- Reading them
 
 -- The section that is read is the first.
-first_read : (at after : Input) (x : Extent) (xs : List Extent) → extent_at at ≡ Some (x, after) → AreExtents at xs →
+pub first_read : (at after : Input) (x : Extent) (xs : List Extent) → extent_at at ≡ Some (x, after) → AreExtents at xs →
     (rest : List Extent) × (xs ≡ x ∷ rest) × AreExtents after rest
 first_read _ after x _ e (none {place = p}) = absurd cc
 first_read at after x _ e (next {after = mid} {id = id} {contents = contents} {rest = rest} s h) =
@@ -82,6 +82,10 @@ none_read at _ e (next {after = mid} {id = id} {contents = contents} {rest = res
     any_section.complete at ((id, record { place = contents; value = s.0 }), mid) s.1 in
     let known : extent_at at ≡ Some (extent at.place id contents mid.place, mid) = rw read refl in
     absurd cc
+
+-- No section is left where the bytes end.
+pub no_more : (place : ℕ) (xs : List Extent) → AreExtents (input place []) xs → xs ≡ []
+no_more place xs h = none_read (input place []) xs refl h
 
 -- The findings so far, with those in the sections that are left, are all findings.
 pub record HasSectionsLeft (wasm : List ℕ) (m : PlacedModule) (at : Input) (customs : List CustomEntry) (found : List Finding) : Type 0 where

@@ -1,5 +1,5 @@
 -- What the text of a module does not show of sections with branch hints (Code Metadata, a document that accompanies the
--- standard): hints that no operator has, and sections that give no hints.
+-- standard): hints that no operator has, and the data of sections that are malformed or that a later section replaces.
 use Rattle.std.specs.Prelude.{ℕ, ◌+◌, ◌-◌, List, [], ◌∷◌, ◌++◌, length, map, ◌==◌, if◌then◌else◌, Option, Some, None, is_none, codes, bytes_eq}
 use Rattle.std.specs.List.{flat_map}
 use Rattle.wasmprinter_spec.specs.Grammar.{Placed, input}

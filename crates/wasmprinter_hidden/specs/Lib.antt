@@ -1,11 +1,12 @@
 -- The definitions that the contracts of this crate cite.
-pub mod Lengths
-pub mod Shortest
-pub mod Findings
-pub mod HiddenNames
-pub mod HiddenHints
-pub mod Hidden
-pub mod OpenParts
 pub mod Extents
+pub mod Findings
+pub mod Hidden
+pub mod HiddenHints
+pub mod HiddenNames
+pub mod HiddenOnce
+pub mod Lengths
 pub mod NameCounts
 pub mod NameReadings
+pub mod OpenParts
+pub mod Shortest

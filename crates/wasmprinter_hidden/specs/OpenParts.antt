@@ -1,6 +1,9 @@
 -- Parts of a module that are read one after the other. The place where a part ends is known once the next part is read.
 use Rattle.std.specs.Prelude.{◌≡◌, ℕ, ◌<◌, ◌-◌, ◌^◌, List, ◌++◌, map, min}
 use Rattle.wasmprinter_spec.specs.Grammar.{Placed}
+use Rattle.wasmprinter_spec.specs.Operator.{Operator}
+use Rattle.wasmprinter_spec.specs.Placed.{LocalEntry}
+use Rattle.wasmprinter_hidden.specs.Lengths.{local_entry_len, operator_len}
 use Rattle.wasmprinter_hidden.specs.Findings.{if_longer}
 use Rattle.wasmprinter_hidden.specs.Hidden.{first_place, in_items}
 use Rattle.wasmprinter_hidden.specs.declared.finding.Part.{Part}

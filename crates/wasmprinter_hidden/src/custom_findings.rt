@@ -48,7 +48,7 @@ fn add_data(
     ensures { OnOk result (findings.new ≡ findings.old ++ in_data counts.now later.now section.now.value) }
 {
     if section.is_name_section() {
-        add_names(findings, counts, section)
+        add_names(findings, counts, section.cursor())
     } else if is_hint_section(section.name()) {
         add_hint_section(alloc, findings, counts.module(), later, section)
     } else {

@@ -40,18 +40,19 @@ pub enum Part {
     UnreadNames,
     /// A branch hint that no instruction has.
     Hint,
-    /// The data of a section with branch hints that gives no hints.
+    /// The data of a section with branch hints that is malformed, or that a later section with branch hints replaces.
     HintSection,
 }
 
-/// A part of a module with more bytes than its shortest encoding, or a section without entries.
+/// A part of a module that its text does not show.
 #[derive(Clone, Copy, Debug, PartialEq, Eq)]
 pub struct Finding {
     /// The byte offset of the part from the start of the module.
     pub place: u64,
     /// The part.
     pub part: Part,
-    /// The number of bytes that the shortest encoding of the part does not have; of a section without entries, all its
-    /// bytes.
+    /// The number of bytes that the shortest encoding of the part does not have. Of a section without entries, an unknown
+    /// subsection, a name of nothing and bytes that are not read, the number of all bytes; of a hint that no instruction
+    /// has, that of its shortest encoding.
     pub extra: u64,
 }

@@ -9,6 +9,7 @@ ghost use Rattle.wasmprinter_spec.specs.Sections.{kind_of};
 ghost use Rattle.wasmprinter_decoder.specs.Decoding.{HasDecodingReason};
 ghost use Rattle.wasmprinter_hidden.specs.Hidden.{body_end, in_start_section, in_section, AreHidden};
 ghost use Rattle.wasmprinter_hidden.specs.Extents.{in_custom, customs_after};
+ghost use Rattle.wasmprinter_hidden.specs.HiddenOnce.{FindingsAreUnique, ModulesHaveFindings};
 
 use crate::custom_findings::add_custom_section;
 use crate::excess::unsigned_len;
@@ -114,17 +115,18 @@ fn findings_in_sections(
 {
     let mut findings = Findings::new(alloc);
     let counts = NameCounts::new(alloc, module)?;
-    let mut customs = 0;
+    let mut custom_count = 0;
     let mut cursor = Cursor::new(PREAMBLE_LEN as u64, &wasm[PREAMBLE_LEN..]);
+    // The bytes encode a module: reading fails only where they end.
     while let Ok(section) = Extent::read(&mut cursor) {
         add_section(&mut findings, section, module)?;
-        customs = add_custom(
+        custom_count = add_custom(
             alloc,
             &mut findings,
             section,
             &counts,
             module.customs(),
-            customs,
+            custom_count,
         )?;
     }
     Ok(findings)
@@ -153,3 +155,10 @@ pub fn hidden(alloc: Global, wasm: &[u8]) -> Result<Vec<Finding>, Error>
     let findings = findings_in_sections(alloc, wasm, &module)?;
     Ok(findings.into_list())
 }
+
+/// States that bytes have at most one list of findings, and one if they encode a module. Has no code: these are laws over
+/// the definition of the list.
+pub fn findings_are_unique()
+    ensures unique { FindingsAreUnique }
+    ensures exists { ModulesHaveFindings }
+{}

@@ -1,4 +1,4 @@
-//! What the text of a module does not show: where its bytes have a shorter encoding.
+//! What the text of a module does not show: where its bytes have a shorter encoding, and names and hints of nothing.
 #![tactic(auto)]
 
 mod body_findings;
@@ -26,4 +26,4 @@ pub mod shortest;
 mod tests;
 mod type_lengths;
 
-pub use hidden_bytes::hidden;
+pub use hidden_bytes::{findings_are_unique, hidden};

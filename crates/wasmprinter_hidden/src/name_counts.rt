@@ -164,6 +164,13 @@ impl<'m, 'a> NameCounts<'m, 'a> {
         })
     }
 
+    /// Returns the counted module.
+    pub(crate) fn module(&self) -> &'m Module<'a>
+        ensures { result.now ≡ self.now }
+    {
+        self.module
+    }
+
     /// Returns the number of items that the subsection with this id names, or 0 if it names locals, labels or fields.
     pub(crate) fn items(&self, subsection: u8) -> u64
         ensures { result ≡ item_count self.now subsection }
