@@ -105,6 +105,15 @@ const UNREAD: &[Row] = &[
         ],
     ),
     (
+        "no bytes after too few names at the end of the section",
+        &[
+            &[0x00, 0x0c],
+            NAME,
+            &[0x01, 0x05, 0x83, 0x00, 0x07, 0x01, 0x66],
+        ],
+        &[(0x11, Part::NameCount, 1), (0x13, Part::NameOfNothing, 3)],
+    ),
+    (
         "all bytes after a function without a count of names",
         &[
             &[0x00, 0x0e],
