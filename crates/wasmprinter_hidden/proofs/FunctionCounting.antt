@@ -1,5 +1,5 @@
 -- The counts of a function are those at its index in the list of all counts.
-use Rattle.std.proofs.Common.{◌≡◌, ℕ, ◌+◌, ◌-◌, ◌<◌, ◌≤◌, Bool, cond, ltb, map, List, [], ◌∷◌, ◌++◌, length, Option, Some, None, refl, sym, ap, subst, ◌∙◌, arith, inl, inr, zero, suc, add-zero}
+use Rattle.std.proofs.Common.{◌≡◌, ℕ, ◌+◌, ◌-◌, ◌<◌, Bool, cond, map, List, [], ◌∷◌, ◌++◌, length, Option, Some, None, refl, sym, ap, subst, ◌∙◌, arith, inl, inr, zero, suc, add-zero}
 use Rattle.std.specs.Prelude.{slice_get, option_map}
 use Rattle.std.proofs.lemmas.Bool.{cases_lt, lt-ltb, le-ltb}
 use Rattle.std.proofs.lemmas.Option.{slice_get-map}
@@ -14,14 +14,14 @@ use Rattle.wasmprinter_hidden.specs.HiddenNames.{local_count, block_count}
 use Rattle.wasmprinter_hidden.specs.NameCounts.{declared_in, blocks_in, counts, function_counts}
 use Rattle.wasmprinter_hidden.specs.declared.name_counts.FunctionCounts.{FunctionCounts}
 
--- ---- The list of one list and then another
+-- ---- The items of one list and then another
 
-pub get_before : {A : Type 0} (xs ys : List A) (k : ℕ) → k < length xs → slice_get (xs ++ ys) k ≡ slice_get xs k
+get_before : {A : Type 0} (xs ys : List A) (k : ℕ) → k < length xs → slice_get (xs ++ ys) k ≡ slice_get xs k
 get_before [] ys k lt = absurd (omega arith)
 get_before (x ∷ xs) ys zero lt = refl
 get_before (x ∷ xs) ys (suc k) lt = get_before xs ys k (omega arith)
 
-pub get_after : {A : Type 0} (xs ys : List A) (k : ℕ) → slice_get (xs ++ ys) (length xs + k) ≡ slice_get ys k
+get_after : {A : Type 0} (xs ys : List A) (k : ℕ) → slice_get (xs ++ ys) (length xs + k) ≡ slice_get ys k
 get_after [] ys k = let same : 0 + k ≡ k = omega arith in ap (slice_get ys) same
 get_after (x ∷ xs) ys k =
     let same : suc (length xs) + k ≡ suc (length xs + k) = omega arith in
@@ -31,20 +31,20 @@ get_after (x ∷ xs) ys k =
 
 module _ (sig : ℕ → Option FuncType) (xs : List ℕ) (fs : List PlacedFunction) where
   -- The counts of an imported function whose type has this index, and of a defined function.
-  abbrev pub imported_counts : ℕ → FunctionCounts
+  abbrev imported_counts : ℕ → FunctionCounts
   imported_counts i = counts (some_or (sig i) 0 (λ t. length t.params)) 0
 
-  abbrev pub defined_counts : PlacedFunction → FunctionCounts
+  abbrev defined_counts : PlacedFunction → FunctionCounts
   defined_counts f = counts (some_or (sig f.type_index) 0 (λ t. length t.params) + declared_in f.body) (blocks_in f.body)
 
-  abbrev pub all_counts : List FunctionCounts
+  abbrev all_counts : List FunctionCounts
   all_counts = map imported_counts xs ++ map defined_counts fs
 
-  abbrev pub type_indices : List ℕ
+  abbrev type_indices : List ℕ
   type_indices = xs ++ map (λ f. f.type_index) fs
 
   -- What is at index i: an imported function, a defined function, or neither.
-  pub data IsAt (i : ℕ) : Type 0 where
+  data IsAt (i : ℕ) : Type 0 where
     is_imported : (o : Option ℕ) → slice_get all_counts i ≡ option_map imported_counts o → slice_get type_indices i ≡ o
         → body_at (length xs) fs i ≡ None → IsAt i
     is_defined : (o : Option PlacedFunction) → slice_get all_counts i ≡ option_map defined_counts o
@@ -76,7 +76,7 @@ module _ (sig : ℕ → Option FuncType) (xs : List ℕ) (fs : List PlacedFuncti
       ]
 
   -- The number of locals of the function at index i, by its type and its body.
-  abbrev pub locals_by : Option ℕ → Option (Placed Body) → ℕ
+  abbrev locals_by : Option ℕ → Option (Placed Body) → ℕ
   locals_by index body = some_or (index >>= sig) 0 (λ t. length t.params) + some_or body 0 declared_in
 
   locals_of_import : (o : Option ℕ) → locals_by o None ≡ some_or (option_map imported_counts o) 0 (λ c. c.locals)

@@ -1,5 +1,5 @@
 -- Counting what a name section can name, item by item.
-use Rattle.std.proofs.Common.{◌≡◌, ℕ, zero, suc, ◌+◌, ◌-◌, ◌*◌, ◌<◌, ◌≤◌, ◌^◌, Bool, true, false, cond, ltb, get_or, drop, map, List, [], ◌∷◌, ◌++◌, length, Option, Some, None, refl, sym, ap, ◌∙◌, arith, length-append, append_assoc, append-nil}
+use Rattle.std.proofs.Common.{◌≡◌, ℕ, suc, ◌+◌, ◌<◌, ◌≤◌, Bool, true, false, cond, get_or, drop, map, List, [], ◌∷◌, ◌++◌, length, Option, Some, None, refl, sym, ap, ◌∙◌, length-append, append_assoc, append-nil}
 use Rattle.std.specs.Prelude.{slice_get}
 use Rattle.std.specs.List.{filter}
 use Rattle.std.proofs.lemmas.List.{at_drop_more, drop_all, length-map}
@@ -13,7 +13,7 @@ use Rattle.wasmprinter_spec.specs.Placed.{PlacedModule, PlacedFunction, TypeGrou
 use Rattle.wasmprinter_spec.specs.Module.{groups_of, without_places, imported_types, func_import, with_first_if_any}
 use Rattle.wasmprinter_ops.specs.Operators.{pairs}
 use Rattle.wasmprinter_hidden.specs.HiddenNames.{sum, opens}
-use Rattle.wasmprinter_hidden.specs.NameCounts.{params_of, declared_in, blocks_in, counts, of_imported, of_defined}
+use Rattle.wasmprinter_hidden.specs.NameCounts.{params_of, declared_in, blocks_in, counts}
 use Rattle.wasmprinter_hidden.specs.declared.name_counts.FunctionCounts.{FunctionCounts}
 use Rattle.wasmprinter_hidden.proofs.FunctionParts.{functions_drop}
 

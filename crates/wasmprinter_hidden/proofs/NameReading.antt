@@ -1,27 +1,26 @@
 -- Reading the data of a name section, item by item.
-use Rattle.std.proofs.Common.{◌≡◌, ℕ, zero, suc, ◌+◌, ◌-◌, ◌<◌, ◌≤◌, Bool, true, false, cond, eqb, length, List, [], ◌∷◌, ◌++◌, Option, Some, None, refl, sym, ap, subst, ◌∙◌, arith, append_assoc, append-nil}
-use Rattle.std.proofs.lemmas.Bool.{eq-eqb, ne_eqb}
+use Rattle.std.proofs.Common.{◌≡◌, ℕ, zero, suc, ◌+◌, ◌-◌, ◌<◌, ◌≤◌, Bool, true, false, ◌&&◌, cond, eqb, ltb, length, List, [], ◌∷◌, ◌++◌, Option, Some, None, refl, sym, ap, subst, ◌∙◌, arith, inl, inr, append_assoc, append-nil}
+use Rattle.std.proofs.lemmas.Bool.{cases_lt, lt-ltb, le-ltb, eq-eqb, ne_eqb, cond-true, cond-false}
 use Rattle.std.proofs.lemmas.List.{nil_from_length}
 use Rattle.wasmprinter_spec.specs.Grammar.{Input, input, Placed}
 use Rattle.wasmprinter_spec.specs.Repeated.{some_or}
-use Rattle.wasmprinter_spec.specs.Name.{u32}
 use Rattle.wasmprinter_spec.specs.Placed.{PlacedModule}
 use Rattle.wasmprinter_hidden.specs.Lengths.{unsigned_len}
 use Rattle.wasmprinter_hidden.specs.Findings.{finding, if_longer}
-use Rattle.wasmprinter_hidden.specs.HiddenNames.{Reading, reading, and_then, read_value, read_number, repeat, subsection, next_subsection, after_stop, in_names}
-use Rattle.wasmprinter_hidden.specs.NameReadings.{IsRead, IsNumberRead}
+use Rattle.wasmprinter_hidden.specs.HiddenNames.{Reading, reading, and_then, read_value, read_number, repeat, subsection, next_subsection, content, unread, at_end_of, known_subsection, in_names}
+use Rattle.wasmprinter_hidden.specs.NameReadings.{IsRead, IsNumberRead, unread_up_to}
 use Rattle.wasmprinter_hidden.specs.declared.finding.Part.{Part}
-use Rattle.wasmprinter_hidden.specs.declared.finding.Part.TheVariants.{UnreadNames}
+use Rattle.wasmprinter_hidden.specs.declared.finding.Part.TheVariants.{NameSubsectionSize, UnreadNames}
 use Rattle.wasmprinter_hidden.specs.declared.finding.Finding.{Finding}
 
 -- ---- One reading after another
 
 module _ (r : Reading) (next : Input → Reading) where
-  pub then_stopped : r.stopped ≡ true → and_then r next ≡ r
+  then_stopped : r.stopped ≡ true → and_then r next ≡ r
   then_stopped e =
       ap (λ (b : Bool). cond b r (reading (r.found ++ (next r.left).found) (next r.left).left (next r.left).stopped)) e
 
-  pub then_goes_on : r.stopped ≡ false → and_then r next ≡ reading (r.found ++ (next r.left).found) (next r.left).left (next r.left).stopped
+  then_goes_on : r.stopped ≡ false → and_then r next ≡ reading (r.found ++ (next r.left).found) (next r.left).left (next r.left).stopped
   then_goes_on e =
       ap (λ (b : Bool). cond b r (reading (r.found ++ (next r.left).found) (next r.left).left (next r.left).stopped)) e
 
@@ -76,7 +75,7 @@ pub record Completes (rest : Reading) (now : List Finding) (whole : Reading) (ol
 
 module _ (read : Input → Reading) (whole : Reading) (old : List Finding) where
   -- One more item was read.
-  pub times_more : (k : ℕ) (at after : Input) (now found : List Finding) → Completes (repeat (suc k) read at) now whole old →
+  times_more : (k : ℕ) (at after : Input) (now found : List Finding) → Completes (repeat (suc k) read at) now whole old →
       IsRead (read at) now after found false → Completes (repeat k read after) found whole old
   times_more k at after now found c r =
       let rest : Reading = repeat k read (read at).left in
@@ -90,7 +89,7 @@ module _ (read : Input → Reading) (whole : Reading) (old : List Finding) where
       })
 
   -- Reading stopped at an item.
-  pub times_stopped : (k : ℕ) (at after : Input) (now found : List Finding) → Completes (repeat (suc k) read at) now whole old →
+  times_stopped : (k : ℕ) (at after : Input) (now found : List Finding) → Completes (repeat (suc k) read at) now whole old →
       IsRead (read at) now after found true → IsRead whole old after found true
   times_stopped k at after now found c r =
       let stop = then_stopped (read at) (repeat k read) (sym r.stops) in
@@ -98,7 +97,7 @@ module _ (read : Input → Reading) (whole : Reading) (old : List Finding) where
       record { found = r.found ∙ h.found; left = r.left ∙ h.left; stops = r.stops ∙ h.stops }
 
   -- All items were read.
-  pub times_done : (at : Input) (now : List Finding) → Completes (reading [] at false) now whole old → IsRead whole old at now false
+  times_done : (at : Input) (now : List Finding) → Completes (reading [] at false) now whole old → IsRead whole old at now false
   times_done at now c = record { found = sym (append-nil now) ∙ c.found; left = c.left; stops = c.stops }
 
 module _ (read : Input → Reading) (start : Input) (old : List Finding) (n : ℕ) where
@@ -194,17 +193,57 @@ module _ (m : PlacedModule) where
   names_read start after old now r =
       let all : Reading = all_subsections start in
       let end : ℕ = start.place + length start.bytes in
+      let rest : List Finding = finding all.left.place UnreadNames (end - all.left.place) ∷ [] in
       r.found ∙ ap (λ (f : List Finding). old ++ f) (sym (append-nil all.found))
-      ∙ ap (λ (b : Bool). old ++ (all.found ++ cond b (finding all.left.place UnreadNames (end - all.left.place) ∷ []) [])) r.stops
+      ∙ ap (λ (b : Bool). old ++ (all.found ++ cond (b && ltb all.left.place end) rest [])) r.stops
 
-  pub names_stopped : (start after : Input) (old now found : List Finding) (end : ℕ) → end ≡ start.place + length start.bytes →
-      IsRead (all_subsections start) old after now true → found ≡ now ++ finding after.place UnreadNames (end - after.place) ∷ [] →
+  pub names_stopped : (start after : Input) (old now found : List Finding) (place end : ℕ) → place ≡ after.place →
+      end ≡ start.place + length start.bytes → IsRead (all_subsections start) old after now true → found ≡ now ++ unread_up_to place end →
       found ≡ old ++ in_names m (record { place = start.place; value = start.bytes })
-  names_stopped start after old now found end is_end r added =
+  names_stopped start after old now found place end is_place is_end r added =
       let all : Reading = all_subsections start in
       let last : ℕ = start.place + length start.bytes in
-      added ∙ ap (λ (n : ℕ). now ++ finding after.place UnreadNames (n - after.place) ∷ []) is_end
-      ∙ ap (λ (i : Input). now ++ finding i.place UnreadNames (last - i.place) ∷ []) r.left
-      ∙ ap (λ (f : List Finding). f ++ finding all.left.place UnreadNames (last - all.left.place) ∷ []) r.found
-      ∙ append_assoc old all.found (finding all.left.place UnreadNames (last - all.left.place) ∷ [])
-      ∙ ap (λ (b : Bool). old ++ (all.found ++ cond b (finding all.left.place UnreadNames (last - all.left.place) ∷ []) [])) r.stops
+      let rest : List Finding = finding all.left.place UnreadNames (last - all.left.place) ∷ [] in
+      added ∙ ap (λ (n : ℕ). now ++ unread_up_to place n) is_end
+      ∙ ap (λ (p : ℕ). now ++ unread_up_to p last) (is_place ∙ ap (λ (i : Input). i.place) r.left)
+      ∙ ap (λ (f : List Finding). f ++ unread_up_to all.left.place last) r.found
+      ∙ append_assoc old all.found (unread_up_to all.left.place last)
+      ∙ ap (λ (b : Bool). old ++ (all.found ++ cond (b && ltb all.left.place last) rest [])) r.stops
+
+-- ---- A subsection with a known id
+
+-- The bytes that are left are those up to their end.
+unread_is : (at : Input) (place end : ℕ) → place ≡ at.place → end ≡ at.place + length at.bytes → unread_up_to place end ≡ unread at
+unread_is at place end is_place is_end =
+    let size : end - place ≡ length at.bytes = omega arith in
+    elim (cases_lt place end) [
+      | inl lt ↦
+          cond-true (ltb place end) (finding place UnreadNames (end - place) ∷ []) [] (lt-ltb place end lt)
+          ∙ ap (λ (n : ℕ). finding place UnreadNames n ∷ []) size
+          ∙ ap (λ (p : ℕ). finding p UnreadNames (length at.bytes) ∷ []) is_place
+          ∙ sym (cond-false (eqb (length at.bytes) 0) [] (finding at.place UnreadNames (length at.bytes) ∷ []) (ne_eqb (length at.bytes) 0 (λ e. omega arith)))
+      | inr le ↦
+          cond-false (ltb place end) (finding place UnreadNames (end - place) ∷ []) [] (le-ltb place end le)
+          ∙ sym (cond-true (eqb (length at.bytes) 0) [] (finding at.place UnreadNames (length at.bytes) ∷ []) (eq-eqb (length at.bytes) 0 (omega arith)))
+    ]
+
+module _ (m : PlacedModule) (size s : ℕ) (c : Placed (List ℕ)) (after : Input) (old : List Finding) where
+  -- A subsection whose content was read up to the input `left`.
+  pub known_read : (sized read now : List Finding) (left : Input) (place end : ℕ) →
+      sized ≡ old ++ if_longer (NameSubsectionSize s) size c.place (unsigned_len (length c.value)) →
+      IsRead (content m s (input c.place c.value)) sized left read false → place ≡ left.place → end ≡ left.place + length left.bytes →
+      now ≡ read ++ unread_up_to place end → IsRead (known_subsection m size s c after) old after now false
+  known_read sized read now left place end is_sized r is_place is_end added =
+      let whole : Reading = content m s (input c.place c.value) in
+      let first : List Finding = if_longer (NameSubsectionSize s) size c.place (unsigned_len (length c.value)) in
+      let ended : at_end_of after whole ≡ reading (whole.found ++ unread whole.left) after false =
+      ap (λ (b : Bool). cond b whole (reading (whole.found ++ unread whole.left) after false)) (sym r.stops) in
+      subst (λ (x : Reading). IsRead (reading (first ++ x.found) x.left x.stopped) old after now false) (sym ended)
+      (record {
+        found = added ∙ ap (λ (f : List Finding). read ++ f) (unread_is left place end is_place is_end ∙ ap unread r.left)
+            ∙ ap (λ (f : List Finding). f ++ unread whole.left) (r.found ∙ ap (λ (f : List Finding). f ++ whole.found) is_sized ∙ append_assoc old first whole.found)
+            ∙ append_assoc old (first ++ whole.found) (unread whole.left)
+            ∙ ap (λ (f : List Finding). old ++ f) (append_assoc first whole.found (unread whole.left));
+        left = refl;
+        stops = refl;
+      })

@@ -24,11 +24,11 @@ pub(crate) struct FunctionCounts {
     labels: u64,
 }
 
-/// The items of a module, counted. Contracts see them as the module.
+/// The numbers of a module's items. Contracts see them as the module.
 ///
-/// A name section may name items of the same function many times. So nothing is counted at a name: the imports, the
-/// types and each body are gone through once, in [`NameCounts::new`], and each of the other methods takes constant time
-/// (which is not part of the contract).
+/// A name section can name locals of the same function in many inner name maps. To read it in linear time, nothing is
+/// counted when names are read: [`NameCounts::new`] goes through the imports, the types and the bodies a constant number of
+/// times, and every other method takes constant time. (The contracts do not say so.)
 #[derive(Drop)]
 pub(crate) struct NameCounts<'m, 'a> {
     module: &'m Module<'a>,
@@ -97,10 +97,7 @@ fn block_count(body: &Body<'_>) -> u64
 }
 
 /// Appends the counts of the imported functions.
-fn add_imported(
-    counts: &mut Vec<FunctionCounts>,
-    module: &Module<'_>,
-) -> Result<(), AllocError>
+fn add_imported(counts: &mut Vec<FunctionCounts>, module: &Module<'_>) -> Result<(), AllocError>
     ensures { OnOk result (counts.new.items ≡ counts.old.items ++ of_imported «module».now) }
 {
     for import in module.imports() {
@@ -149,7 +146,7 @@ fn type_count(module: &Module<'_>) -> u64
 }
 
 impl<'m, 'a> NameCounts<'m, 'a> {
-    /// Counts the items of the module.
+    /// Counts the items of the module. Only a module with a name section needs this.
     pub(crate) fn new(alloc: Global, module: &'m Module<'a>) -> Result<Self, AllocError>
         ensures { IfOk result (λ c. c ≡ «module».now) }
     {

@@ -4,8 +4,8 @@
 ghost use Rattle.std.specs.Prelude.{◌≡◌, ◌++◌, ◌<◌, IfOk, OnOk, false, length};
 ghost use Rattle.wasmprinter_spec.specs.Grammar.{input};
 ghost use Rattle.wasmprinter_spec.specs.Names.Section.{association, is_indirect};
-ghost use Rattle.wasmprinter_hidden.specs.HiddenNames.{read_value, in_name, name_map, inner_map, read_list, module_name, content, unread, known_subsection, subsection, in_names};
-ghost use Rattle.wasmprinter_hidden.specs.NameReadings.{IsRead, IsNumberRead};
+ghost use Rattle.wasmprinter_hidden.specs.HiddenNames.{read_value, in_name, name_map, inner_map, read_list, module_name, content, known_subsection, subsection, in_names};
+ghost use Rattle.wasmprinter_hidden.specs.NameReadings.{IsRead, IsNumberRead, unread_up_to};
 
 use crate::excess::unsigned_len;
 use crate::finding::Part;
@@ -129,10 +129,7 @@ fn read_indirect_map(
 }
 
 /// Reads the name of the module, and appends the finding in it.
-fn read_module_name(
-    findings: &mut Findings,
-    cursor: &mut Cursor<'_>,
-) -> Result<bool, AllocError>
+fn read_module_name(findings: &mut Findings, cursor: &mut Cursor<'_>) -> Result<bool, AllocError>
     ensures { IfOk result (IsRead (module_name cursor.old) findings.old cursor.new findings.new) }
 {
     let place = cursor.place();
@@ -172,14 +169,15 @@ fn read_content(
     }
 }
 
-/// Appends the finding that the remaining bytes are not read, if there are any.
-fn add_unread(findings: &mut Findings, rest: &Cursor<'_>) -> Result<(), AllocError>
-    ensures { OnOk result (findings.new ≡ findings.old ++ unread rest.now) }
+/// Appends the finding that the bytes from a place up to `end` are not read, if there are any.
+fn add_unread(findings: &mut Findings, place: u64, end: u64) -> Result<(), AllocError>
+    ensures { OnOk result (findings.new ≡ findings.old ++ unread_up_to place end) }
 {
-    if rest.is_empty() {
-        return Ok(());
+    if place < end {
+        findings.push(place, Part::UnreadNames, end - place)
+    } else {
+        Ok(())
     }
-    findings.push(rest.place(), Part::UnreadNames, rest.len() as u64)
 }
 
 /// Reads the content of a subsection with a known id, and appends the findings in the subsection. The cursor must be after
@@ -209,7 +207,7 @@ fn read_known<'a>(
         *cursor = content;
         return Ok(true);
     }
-    add_unread(findings, &content)?;
+    add_unread(findings, content.place(), content.end())?;
     Ok(false)
 }
 
@@ -238,8 +236,8 @@ fn read_subsection(
 
 /// Appends the findings in the data of a name section of the counted module.
 ///
-/// The time is linear in the number of bytes (which is not part of the contract): each item that is read takes a byte or
-/// more, and reading stops at the first that the bytes do not encode, whatever the count before it says.
+/// The time is linear in the number of bytes: each item that is read takes at least one byte, and reading stops at the first
+/// item that the bytes do not encode, whatever the count before the items is. (The contract does not say so.)
 pub(crate) fn add_names(
     findings: &mut Findings,
     counts: &NameCounts<'_, '_>,
@@ -252,8 +250,7 @@ pub(crate) fn add_names(
     let end = cursor.end();
     'subsections: while !cursor.is_empty() {
         if read_subsection(findings, counts, &mut cursor)? {
-            let place = cursor.place();
-            return findings.push(place, Part::UnreadNames, end.saturating_sub(place));
+            return add_unread(findings, cursor.place(), end);
         }
     }
     Ok(())

@@ -1,6 +1,4 @@
-use Rattle.std.proofs.Common.{◌≡◌, ◌+◌, ◌++◌, List, ap, sym, subst, ◌∙◌}
-use Rattle.wasmprinter_spec.specs.Grammar.{Placed}
-use Rattle.wasmprinter_spec.specs.Placed.{Body}
+use Rattle.std.proofs.Common.{◌+◌, ◌++◌, List, ap, sym, subst, ◌∙◌}
 use Rattle.wasmprinter_hidden.specs.NameCounts.{params_of, declared_in, blocks_in, of_defined}
 use Rattle.wasmprinter_hidden.specs.declared.name_counts.FunctionCounts.{FunctionCounts}
 use Rattle.wasmprinter_hidden.proofs.NameCounting.{FunctionsLeft, functions_more}

@@ -1,8 +1,8 @@
-use Rattle.std.proofs.Common.{◌≡◌, ℕ, suc, Bool, true, false, length, ap, sym, ◌∙◌, arith}
+use Rattle.std.proofs.Common.{◌≡◌, ℕ, true, false, ap, sym, ◌∙◌, arith}
 use Rattle.wasmprinter_spec.specs.Operator.{Operator}
 use Rattle.wasmprinter_spec.specs.Table.{role_of}
 use Rattle.wasmprinter_hidden.specs.HiddenNames.{opens}
-use Rattle.wasmprinter_hidden.proofs.NameCounting.{opened_by, opened_one, opened_none, operators_fewer}
+use Rattle.wasmprinter_hidden.proofs.NameCounting.{opened_one, opened_none, operators_fewer}
 use Rattle.wasmprinter_hidden.proofs.name_counts.block_count.Goals as goal
 
 pub loop-operator-preserved-then-opens_block : goal.loop-operator-preserved-then-opens_block

@@ -1,4 +1,4 @@
-use Rattle.std.proofs.Common.{◌≡◌, ◌-◌, ◌++◌, ◌∷◌, [], ℕ, List, Bool, true, false, refl, ap, subst, ◌∙◌, arith}
+use Rattle.std.proofs.Common.{◌≡◌, ◌-◌, ◌++◌, ◌∷◌, [], ℕ, refl, ap, ◌∙◌, arith}
 use Rattle.std.proofs.lemmas.Result.{on_ok_weaker}
 use Rattle.wasmprinter_hidden.specs.Findings.{finding}
 use Rattle.wasmprinter_hidden.specs.declared.finding.Part.TheVariants.{UnreadNames}
@@ -12,15 +12,12 @@ returns-then-branch c =
     let old = c.args.findings.now in
     let after = c.read_subsection.new.cursor in
     let now = c.read_subsection.new.findings in
-    let extra : c.saturating_sub.result ≡ c.end-end.result - after.place = omega (arith, c.place-place.ensures) in
     let all =
     subsections_stop m start old c.subsections.cursor c.subsections.findings after now (λ none. let t = c.subsections-test.ensures.1 none in cc)
     c.subsections.invariant (rw c.if-branch.true at c.in_ok-read_subsection.ensures.reads) in
-    on_ok_weaker c.push.result
-    (λ e. names_stopped m start after old now c.push.new.self c.end-end.result c.end-end.ensures all
-    (e ∙ ap (λ (p : ℕ). now ++ finding p UnreadNames c.saturating_sub.result ∷ []) c.place-place.ensures
-    ∙ ap (λ (n : ℕ). now ++ finding after.place UnreadNames n ∷ []) extra))
-    c.push.ensures
+    on_ok_weaker c.add_unread.result
+    (λ e. names_stopped m start after old now c.add_unread.new.findings c.place.result c.end-end.result c.place.ensures c.end-end.ensures all e)
+    c.add_unread.ensures
 
 pub subsections-preserved : goal.subsections-preserved
 subsections-preserved c =

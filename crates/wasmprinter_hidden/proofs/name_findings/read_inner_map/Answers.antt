@@ -1,4 +1,4 @@
-use Rattle.std.proofs.Common.{◌≡◌, ℕ, Bool, Option, Some, subst}
+use Rattle.std.proofs.Common.{ℕ, Bool, Option, subst}
 use Rattle.std.proofs.lemmas.Result.{IfOk-weaker}
 use Rattle.wasmprinter_hidden.specs.HiddenNames.{name_map, inner_map, inner_count}
 use Rattle.wasmprinter_hidden.specs.NameReadings.{IsRead, IsNumberRead}
