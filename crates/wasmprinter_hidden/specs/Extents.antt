@@ -1,8 +1,10 @@
 -- Reading the extents of sections, and custom sections.
 use Rattle.std.specs.Prelude.{ℕ, List, [], drop, ◌==◌, if◌then◌else◌, Option, Some}
 use Rattle.wasmprinter_spec.specs.Grammar.{Input, ◌>>=◌}
+use Rattle.wasmprinter_spec.specs.Placed.{CustomEntry, PlacedModule}
 use Rattle.wasmprinter_hidden.specs.Findings.{any_section}
-use Rattle.wasmprinter_hidden.specs.Hidden.{Extent, extent}
+use Rattle.wasmprinter_hidden.specs.Hidden.{Extent, extent, in_first_custom}
+use Rattle.wasmprinter_hidden.specs.declared.finding.Finding.{Finding}
 
 -- Reads a section of any kind: its extent, and the input after it.
 abbrev pub extent_at : Input → Option (Extent × Input)

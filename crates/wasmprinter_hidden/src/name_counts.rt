@@ -146,7 +146,7 @@ fn type_count(module: &Module<'_>) -> u64
 }
 
 impl<'m, 'a> NameCounts<'m, 'a> {
-    /// Counts the items of the module. Only a module with a name section needs this.
+    /// Counts the items of the module.
     pub(crate) fn new(alloc: Global, module: &'m Module<'a>) -> Result<Self, AllocError>
         ensures { IfOk result (λ c. c ≡ «module».now) }
     {

@@ -1,7 +1,5 @@
-use Rattle.std.proofs.Common.{◌≡◌, ◌-◌, ◌++◌, ◌∷◌, [], ℕ, refl, ap, ◌∙◌, arith}
+use Rattle.std.proofs.Common.{refl}
 use Rattle.std.proofs.lemmas.Result.{on_ok_weaker}
-use Rattle.wasmprinter_hidden.specs.Findings.{finding}
-use Rattle.wasmprinter_hidden.specs.declared.finding.Part.TheVariants.{UnreadNames}
 use Rattle.wasmprinter_hidden.proofs.NameReading.{subsections_more, subsections_stop, subsections_end, names_read, names_stopped}
 use Rattle.wasmprinter_hidden.proofs.name_findings.add_names.Goals as goal
 
