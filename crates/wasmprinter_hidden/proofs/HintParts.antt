@@ -1,5 +1,5 @@
 -- Hints that operators and functions take, one after the other.
-use Rattle.std.proofs.Common.{◌≡◌, ℕ, suc, ◌+◌, ◌-◌, ◌<◌, ◌≤◌, ◌==◌, Bool, true, false, length, map, drop, get_or, List, [], ◌∷◌, ◌++◌, Option, Some, None, refl, sym, ap, ◌∙◌, arith, append_assoc, drop-drop}
+use Rattle.std.proofs.Common.{◌≡◌, ℕ, ◌+◌, ◌-◌, ◌<◌, ◌≤◌, ◌==◌, Bool, true, false, length, map, drop, get_or, List, [], ◌∷◌, ◌++◌, Option, Some, None, refl, sym, ap, ◌∙◌, arith, append_assoc, drop-drop}
 use Rattle.std.specs.Prelude.{slice_get, bytes_eq, is_none, if◌then◌else◌}
 use Rattle.std.proofs.lemmas.List.{map-append, drop_more, drop_all}
 use Rattle.wasmprinter_spec.specs.Grammar.{Placed}
@@ -117,4 +117,4 @@ pub one_named : (n : List ℕ) (customs : List CustomEntry) (i : ℕ) (c : Custo
 one_named n customs i c lt is named =
     ap (λ cs. is_none (last_named n None cs)) (drop_more customs i c lt ∙ ap (λ x. x ∷ drop (i + 1) customs) (sym is))
     ∙ still_named n (if bytes_eq c.section.value.name n then Some c.section.value else None) (drop (i + 1) customs)
-        (ap (λ b. is_none (if b then Some c.section.value else None)) named)
+    (ap (λ b. is_none (if b then Some c.section.value else None)) named)

@@ -8,6 +8,7 @@ mod ExternTypes
 mod FindingsOnce
 mod FunctionCounting
 mod FunctionParts
+mod HintData
 mod HintParts
 mod Laws
 mod Lists

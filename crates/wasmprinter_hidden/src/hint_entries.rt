@@ -1,9 +1,10 @@
-//! The data of sections with branch hints (Code Metadata, a document that accompanies the standard). The library's own
-//! reader lists no hint that an operator does not take, so the data is read here.
+//! The data of sections with branch hints (Code Metadata, a document that accompanies the standard).
+//!
+//! [`wasmprinter_custom::Hints`] only gives the hints that operators take, and no hints for data with an error. So the
+//! data is read here.
 ghost use Rattle.std.specs.Prelude.{◌≡◌, ◌==◌, IfOk, option_map};
 ghost use Rattle.wasmprinter_spec.specs.Grammar.{value_with_place};
-ghost use Rattle.wasmprinter_spec.specs.Customs.Hints.{hint as hint_grammar, function_hints, hint_section};
-ghost use Rattle.wasmprinter_spec.specs.Customs.Hints.{hints_after};
+ghost use Rattle.wasmprinter_spec.specs.Customs.Hints.{hint as hint_grammar, function_hints, hint_section, hints_after};
 
 use std::alloc::{AllocError, Global};
 use std::marker::Model;
@@ -14,7 +15,7 @@ use wasmprinter_bytes::{Error, Malformed};
 use wasmprinter_custom::Hint;
 
 /// Data with more functions has an error.
-const MOST_FUNCTIONS: usize = 1_000_000;
+const MOST_FUNCTIONS: u32 = 1_000_000;
 
 /// Data with more hints of one function has an error.
 const MOST_HINTS: u32 = 131_071;
@@ -97,16 +98,21 @@ impl<'a> FunctionEntry<'a> {
     }
 }
 
-/// Reads the data of a section with branch hints. Returns `None` if it has an error.
+/// Reads the data of a section with branch hints. Returns `None` if it has an error. The entries are in memory, so their
+/// count is tested before they are read.
 pub(crate) fn read_entries<'a>(
     alloc: Global,
     data: Cursor<'a>,
 ) -> Result<Option<Vec<FunctionEntry<'a>>>, AllocError>
     ensures { IfOk result (λ entries. option_map (λ v. v.items) entries ≡ hint_section.parse «data».entry) }
 {
+    match data.fork().u32() {
+        Ok(count) if count <= MOST_FUNCTIONS => {}
+        _ => return Ok(None),
+    }
     let mut cursor = data;
     match read_list::<FunctionEntry>(alloc, &mut cursor) {
-        Ok(entries) if entries.len() <= MOST_FUNCTIONS && cursor.is_empty() => Ok(Some(entries)),
+        Ok(entries) if cursor.is_empty() => Ok(Some(entries)),
         Err(Error::Memory) => Err(AllocError),
         _ => Ok(None),
     }

@@ -1,5 +1,5 @@
 //! Findings in sections with branch hints (Code Metadata, a document that accompanies the standard).
-ghost use Rattle.std.specs.Prelude.{◌≡◌, ◌++◌, None, OnOk, codes, is_none, length, map};
+ghost use Rattle.std.specs.Prelude.{◌≡◌, ◌++◌, None, OnOk, codes, is_none, map};
 ghost use Rattle.wasmprinter_spec.specs.Module.{func_import};
 ghost use Rattle.wasmprinter_spec.specs.Customs.Hints.{last_named};
 ghost use Rattle.wasmprinter_hidden.specs.HiddenNames.{imported};
@@ -10,7 +10,6 @@ use crate::finding::Part;
 use crate::findings::Findings;
 use crate::hint_entries::{FunctionEntry, HintEntries, read_entries, take_at};
 use std::alloc::{AllocError, Global};
-use wasmprinter_bytes::cursor::Cursor;
 use wasmprinter_custom::is_hint_section;
 use wasmprinter_decoder::{Body, Custom, CustomEntry, ExternKind, Fields, Module};
 
@@ -29,10 +28,7 @@ fn add_hints(findings: &mut Findings, hints: &HintEntries<'_>) -> Result<(), All
 }
 
 /// Appends a finding for each hint of the entries.
-fn add_entries(
-    findings: &mut Findings,
-    entries: &[FunctionEntry<'_>],
-) -> Result<(), AllocError>
+fn add_entries(findings: &mut Findings, entries: &[FunctionEntry<'_>]) -> Result<(), AllocError>
     ensures { OnOk result (findings.new ≡ findings.old ++ map in_hint (hints_in entries.now)) }
 {
     for entry in entries {
@@ -75,14 +71,15 @@ fn add_left_hints(
     add_entries(findings, &entries[taken..])
 }
 
-/// Appends a finding for the data as a whole, unless it is empty.
-fn add_whole_data(findings: &mut Findings, data: &Cursor<'_>) -> Result<(), AllocError>
-    ensures { OnOk result (findings.new ≡ findings.old ++ whole_data (record { place = «data».now.place; value = «data».now.bytes })) }
+/// Appends a finding for the data of a section as a whole, unless it is empty.
+fn add_whole_data(findings: &mut Findings, section: &Custom<'_>) -> Result<(), AllocError>
+    ensures { OnOk result (findings.new ≡ findings.old ++ whole_data section.now.value.bytes) }
 {
-    if data.is_empty() {
+    let bytes = section.bytes();
+    if bytes.is_empty() {
         return Ok(());
     }
-    findings.push(data.place(), Part::HintSection, data.len() as u64)
+    findings.push(section.bytes_place(), Part::HintSection, bytes.len() as u64)
 }
 
 /// Appends the findings in the data of the section with branch hints that counts.
@@ -90,13 +87,13 @@ fn add_last_hints(
     alloc: Global,
     findings: &mut Findings,
     module: &Module<'_>,
-    data: &Cursor<'_>,
+    section: &Custom<'_>,
 ) -> Result<(), AllocError>
-    ensures { OnOk result (findings.new ≡ findings.old ++ in_last_hints «module».now (record { place = «data».now.place; value = «data».now.bytes })) }
+    ensures { OnOk result (findings.new ≡ findings.old ++ in_last_hints «module».now section.now.value.bytes) }
 {
-    match read_entries(alloc, data.fork())? {
+    match read_entries(alloc, section.cursor())? {
         Some(entries) => add_left_hints(findings, module, &entries),
-        None => add_whole_data(findings, data),
+        None => add_whole_data(findings, section),
     }
 }
 
@@ -125,10 +122,9 @@ pub(crate) fn add_hint_section(
 ) -> Result<(), AllocError>
     ensures { OnOk result (findings.new ≡ findings.old ++ in_hints «module».now later.now section.now.value.bytes) }
 {
-    let data = section.cursor();
     if have_no_hints(later) {
-        add_last_hints(alloc, findings, module, &data)
+        add_last_hints(alloc, findings, module, section)
     } else {
-        add_whole_data(findings, &data)
+        add_whole_data(findings, section)
     }
 }

@@ -1,4 +1,4 @@
-use Rattle.std.proofs.Common.{sym, ◌∙◌}
+use Rattle.std.proofs.Common.{◌∙◌}
 use Rattle.wasmprinter_hidden.proofs.HintParts.{left_more, left_all}
 use Rattle.wasmprinter_hidden.proofs.hint_findings.left_in_body.Goals as goal
 
