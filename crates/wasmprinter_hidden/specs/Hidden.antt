@@ -1,6 +1,7 @@
 -- What the text of a module does not show: bytes that a shorter encoding of the same module does not have, sections without
--- entries, names of nothing, and hints of no operator. How locals are grouped, names that a later name replaces, and longer
--- numbers in the data of other custom sections than `name` are not among it.
+-- entries, names of nothing, and hints of no operator. These are not among it: how locals are grouped, the data count, names
+-- that a later name replaces, lists of names and sections with hints that have none, and longer numbers in the data of other
+-- custom sections than `name`.
 use Rattle.std.specs.Prelude.{◌≡◌, ℕ, ◌+◌, ◌-◌, List, [], ◌∷◌, ◌++◌, length, map, drop, nat_lt, ◌==◌, if◌then◌else◌, codes, bytes_eq, Option, Some, None}
 use Rattle.wasmprinter_spec.specs.Grammar.{Input, input, Spans, Grammar, Placed, byte, seq, map_value, value_with_place}
 use Rattle.wasmprinter_spec.specs.Sized.{take_bytes}

@@ -163,8 +163,8 @@ abbrev pub subsection : PlacedModule → Input → Reading
 subsection m at =
     some_or (any_section.parse at) (reading [] at true)
     (λ ((s, c), after).
-      if nat_lt tag_subsection s then reading (finding at.place (NameSubsection s) (after.place - at.place) ∷ []) after false
-      else known_subsection m (at.place + 1) s c after)
+    if nat_lt tag_subsection s then reading (finding at.place (NameSubsection s) (after.place - at.place) ∷ []) after false
+    else known_subsection m (at.place + 1) s c after)
 
 -- The next subsection, if a byte is left.
 abbrev pub next_subsection : PlacedModule → Input → Reading
