@@ -10,8 +10,6 @@ pub mod finding;
 mod findings;
 mod function_findings;
 mod hidden_bytes;
-#[cfg(test)]
-mod hidden_tests;
 mod hint_entries;
 mod hint_findings;
 mod list_lengths;
@@ -24,6 +22,8 @@ mod section_extents;
 mod section_findings;
 mod section_ids;
 pub mod shortest;
+#[cfg(test)]
+mod tests;
 mod type_lengths;
 
 pub use hidden_bytes::{findings_are_unique, hidden};
