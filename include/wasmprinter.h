@@ -62,7 +62,7 @@ typedef struct WasmprinterBuffer {
 /* The options of printing, as bits of WasmprinterOptions.flags. */
 enum {
     WASMPRINTER_OFFSETS = 1,      /* begin each line after the first with its place, or with spaces if it has none */
-    WASMPRINTER_SKELETON = 2,     /* leave out bodies, items of element segments, and bytes of data segments and custom sections */
+    WASMPRINTER_SKELETON = 2,     /* leave out bodies, items of element segments, and bytes of data segments and (@custom ..) */
     WASMPRINTER_NAME_UNNAMED = 4, /* synthesize identifiers for items without a name */
     WASMPRINTER_FOLD = 8,         /* put each operator in parentheses with its operands */
     WASMPRINTER_EVENTS = 16       /* fill the table with all events, not only with the starts of lines */

@@ -34,7 +34,7 @@ namespace wasmprinter {
 // The options of printing.
 struct Options {
     bool offsets = false;           // begin each line after the first with its place
-    bool skeleton = false;          // leave out bodies, items of element segments, and bytes of data segments and custom sections
+    bool skeleton = false;          // leave out bodies, items of element segments, and bytes of data segments and (@custom ..)
     bool name_unnamed = false;      // synthesize identifiers for items without a name
     bool fold = false;              // put each operator in parentheses with its operands
     std::string_view indent = "  "; // the text of one level of nesting, in UTF-8

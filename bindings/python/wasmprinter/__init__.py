@@ -9,7 +9,7 @@ set, libwasmprinter.so.1 or libwasmprinter.so is loaded from the system's search
 Options of the functions that print:
 
 - offsets begins each line after the first with its place, its byte offset in the module.
-- skeleton leaves out bodies, items of element segments, and bytes of data segments and custom sections.
+- skeleton leaves out bodies, items of element segments, and bytes of data segments and (@custom ..).
 - name_unnamed synthesizes identifiers for items without a name.
 - fold puts each operator in parentheses with its operands.
 - indent is the text of one level of nesting, or a number of spaces.

@@ -115,7 +115,7 @@ impl Config {
         self.choose(sys::WASMPRINTER_OFFSETS, print)
     }
 
-    /// Chooses whether bodies, items of element segments, and bytes of data segments and custom sections are left out.
+    /// Chooses whether bodies, items of element segments, and bytes of data segments and `(@custom ..)` are left out.
     pub fn print_skeleton(&mut self, print: bool) -> &mut Self {
         self.choose(sys::WASMPRINTER_SKELETON, print)
     }

@@ -18,7 +18,7 @@ pub const WASMPRINTER_REVISION: u32 = 1;
 /// A bit of the flags: begin each line after the first with its place.
 pub const WASMPRINTER_OFFSETS: u32 = 1;
 
-/// A bit of the flags: leave out bodies, items of element segments, and bytes of data segments and custom sections.
+/// A bit of the flags: leave out bodies, items of element segments, and bytes of data segments and `(@custom ..)`.
 pub const WASMPRINTER_SKELETON: u32 = 2;
 
 /// A bit of the flags: synthesize identifiers for items without a name.
