@@ -6,7 +6,7 @@
  * Every length is a number of bytes, unless stated otherwise. No object that is passed has more than PTRDIFF_MAX bytes. Every place is a byte
  * offset from the start of the module. Texts are not null-terminated, unless stated otherwise.
  *
- * Threads: no function keeps state between calls, and none takes a lock. Any number of threads may call any of them at the same
+ * Threads: no function keeps state between calls, and none takes a lock of its own. Any number of threads may call any of them at the same
  * time, on buffers of their own. Threads may share the input of a call, as long as no thread writes to it.
  * Do not call a function from a signal handler, or in the forked child of a process with threads.
  *
@@ -16,7 +16,7 @@
  * allocate.
  *
  * Pointers: if the `ptr` of a module, a list of names, a buffer or a table is null, it counts as empty, whatever its `len` is. `options`,
- * the `ptr` of an indent, `result`, `resize` and a name of length 0 may be null too. No other pointer may be null, and no pointer that is
+ * the `ptr` of an indent, `result`, `resize`, `context` and a name of length 0 may be null too. No other pointer may be null, and no pointer that is
  * passed to a function whose name starts with `wasmprinter_raw_`. An object that a function writes to must not overlap any other object that
  * is passed to it, nor the block of wasmprinter_print_alloc. */
 #ifndef WASMPRINTER_H
@@ -63,7 +63,7 @@ typedef struct WasmprinterBuffer {
 enum {
     WASMPRINTER_OFFSETS = 1,      /* begin each line after the first with its place, or with spaces if it has none */
     WASMPRINTER_SKELETON = 2,     /* leave out bodies, items of element segments, and bytes of data segments and (@custom ..) */
-    WASMPRINTER_NAME_UNNAMED = 4, /* synthesize identifiers for items without a name */
+    WASMPRINTER_NAME_UNNAMED = 4, /* synthesize identifiers for items and labels without a name */
     WASMPRINTER_FOLD = 8,         /* put each operator in parentheses with its operands */
     WASMPRINTER_EVENTS = 16       /* fill the table with all events, not only with the starts of lines */
 };
@@ -104,6 +104,7 @@ enum {
  * that remain. In these cases it is another place:
  * - A byte or number is missing: the end of the body, of the section or of the module.
  * - A float, a vector or a list of lanes is cut off: its first byte.
+ * - An opcode after a prefix is undefined: the prefix.
  * - The preamble is another one or is cut off: 0.
  * - A name is not UTF-8: the first byte of its length.
  * - Two sections disagree about a count: the end of the module. */
@@ -121,7 +122,7 @@ typedef struct WasmprinterResult {
  * A style lasts until the next style event, one of the kinds WASMPRINTER_NAME to WASMPRINTER_RESET. WASMPRINTER_RESET does not bring back an
  * earlier style. With WASMPRINTER_FOLD there are no style events inside the text of a folded operator. */
 enum {
-    WASMPRINTER_LINE = 0,          /* a line starts that shows nothing of the module */
+    WASMPRINTER_LINE = 0,          /* a line without a place starts */
     WASMPRINTER_LINE_AT_PLACE = 1, /* a line with a place starts */
     WASMPRINTER_NAME = 2,          /* the style of names and indices starts */
     WASMPRINTER_LITERAL = 3,       /* the style of numbers and strings starts */

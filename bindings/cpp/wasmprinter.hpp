@@ -35,7 +35,7 @@ namespace wasmprinter {
 struct Options {
     bool offsets = false;           // begin each line after the first with its place
     bool skeleton = false;          // leave out bodies, items of element segments, and bytes of data segments and (@custom ..)
-    bool name_unnamed = false;      // synthesize identifiers for items without a name
+    bool name_unnamed = false;      // synthesize identifiers for items and labels without a name
     bool fold = false;              // put each operator in parentheses with its operands
     std::string_view indent = "  "; // the text of one level of nesting, in UTF-8
     std::size_t limit = 0;          // the greatest length of the text in bytes; 0: no limit
@@ -244,7 +244,7 @@ class Text {
 
 // A line of a text.
 struct Line {
-    std::optional<std::uint64_t> place; // the place of the line in the module, if it shows anything of the module
+    std::optional<std::uint64_t> place; // the place of the line in the module, if it has one
     std::string_view text;              // the line with its line feed
 };
 

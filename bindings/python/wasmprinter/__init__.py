@@ -10,7 +10,7 @@ Options of the functions that print:
 
 - offsets begins each line after the first with its place, its byte offset in the module.
 - skeleton leaves out bodies, items of element segments, and bytes of data segments and (@custom ..).
-- name_unnamed synthesizes identifiers for items without a name.
+- name_unnamed synthesizes identifiers for items and labels without a name.
 - fold puts each operator in parentheses with its operands.
 - indent is the text of one level of nesting, or a number of spaces.
 - limit is the greatest length of the text in bytes, or None. TooLong is raised for a longer text.
@@ -163,7 +163,7 @@ class UnknownOption(Error, status=13):
 
 
 class Line(NamedTuple):
-    """A line of the text with its line feed, and its byte offset in the module, or `None` if it shows nothing of the module."""
+    """A line of the text with its line feed, and its byte offset in the module, or `None` if it has none."""
 
     place: Optional[int]
     text: str
@@ -173,7 +173,7 @@ class Kind(enum.IntEnum):
     """The kinds of events. A style lasts until the next style event, one of the kinds from NAME to RESET."""
 
     LINE = 0
-    """A line starts that shows nothing of the module."""
+    """A line without a place starts."""
     LINE_AT_PLACE = 1
     """A line with a place starts."""
     NAME = 2

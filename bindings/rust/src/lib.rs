@@ -239,7 +239,7 @@ impl Config {
     }
 
     /// Appends the text of a module to `storage`, and returns an iterator over its lines. Each item is the place of a line, or `None` if it
-    /// shows nothing of the module, and the line with its line feed.
+    /// has none, and the line with its line feed.
     ///
     /// ```
     /// let mut storage = String::new();

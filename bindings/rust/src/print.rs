@@ -63,7 +63,7 @@ pub trait Print {
         self.write_str("\n")
     }
 
-    /// Starts a line. `binary_offset` is its place, or `None` if the line shows nothing of the module. The default does nothing.
+    /// Starts a line. `binary_offset` is its place, or `None` if the line has none. The default does nothing.
     fn start_line(&mut self, binary_offset: Option<u64>) {
         let _ = binary_offset;
     }
@@ -158,7 +158,7 @@ fn is_line(event: &sys::WasmprinterEvent) -> bool {
     )
 }
 
-/// Returns the place of a line, or `None` if the line shows nothing of the module.
+/// Returns the place of a line, or `None` if the line has none.
 pub(crate) fn place_of(line: &sys::WasmprinterEvent) -> Option<u64> {
     (line.kind == sys::WASMPRINTER_LINE_AT_PLACE).then_some(line.place)
 }

@@ -21,7 +21,7 @@ pub const WASMPRINTER_OFFSETS: u32 = 1;
 /// A bit of the flags: leave out bodies, items of element segments, and bytes of data segments and `(@custom ..)`.
 pub const WASMPRINTER_SKELETON: u32 = 2;
 
-/// A bit of the flags: synthesize identifiers for items without a name.
+/// A bit of the flags: synthesize identifiers for items and labels without a name.
 pub const WASMPRINTER_NAME_UNNAMED: u32 = 4;
 
 /// A bit of the flags: put each operator in parentheses with its operands.
@@ -93,7 +93,7 @@ pub struct WasmprinterResult {
     pub detail: u64,
 }
 
-/// A kind of event: a line starts that shows nothing of the module.
+/// A kind of event: a line without a place starts.
 pub const WASMPRINTER_LINE: u32 = 0;
 
 /// A kind of event: a line with a place starts.
