@@ -47,7 +47,7 @@ def of_checks(tree):
         ("# mutants, deliberately", gate),
         (r"^\| \[Mutants\]\S* \| #, and", gate),
         (r"^\| \[Mutants\].*, and # others", others),
-        ("# files of definitions that the checker", len(tree.matching("crates/wasmprinter_spec/proofs/*Rows.antt"))),
+        ("# files of `wasmprinter_spec` that the checker", len(tree.matching("crates/wasmprinter_spec/proofs/*Rows.antt"))),
         (r"# tests; \d", tests(tree)),
         (r"^\| ((?:`\w+`(?:, )?)+) \| # \|", lambda match: sum(tests(tree, crate) for crate in re.findall(r"\w+", match.group(1)))),
         ("# runs of `printwasm`", runs),
