@@ -11,8 +11,8 @@ use Rattle.wasmprinter_hidden.specs.declared.finding.Finding.{Finding}
 abbrev pub any_section : Grammar (ℕ × Placed (List ℕ))
 any_section = seq byte (λ id. map_value (λ x. x.1) (seq u32 (λ size. value_with_place (take_bytes size))))
 
--- The part of the module that starts at this place has so many more bytes than its shortest encoding. The order is that of
--- the fields.
+-- The finding of this part of the module, which starts at this place, with this number of extra bytes (`extra` of `Finding`).
+-- The order is that of the fields.
 abbrev pub finding : ℕ → Part → ℕ → Finding
 finding place part extra = record { place = place; part = part; extra = extra }
 

@@ -1,5 +1,5 @@
 -- What the text of a module does not show of sections with branch hints (Code Metadata, a document that accompanies the
--- standard): hints that no operator has, and the data of sections that are malformed or that a later section replaces.
+-- standard): hints that no operator takes, and the data of sections that are malformed or that a later section replaces.
 use Rattle.std.specs.Prelude.{ℕ, ◌+◌, ◌-◌, List, [], ◌∷◌, ◌++◌, length, map, ◌==◌, if◌then◌else◌, Option, Some, None, is_none, codes, bytes_eq}
 use Rattle.std.specs.List.{flat_map}
 use Rattle.wasmprinter_spec.specs.Grammar.{Placed, input}
@@ -14,7 +14,7 @@ use Rattle.wasmprinter_hidden.specs.Findings.{finding}
 use Rattle.wasmprinter_hidden.specs.declared.finding.Part.TheVariants.{Hint, HintSection}
 use Rattle.wasmprinter_hidden.specs.declared.finding.Finding.{Finding}
 
--- The hints that no operator of the body has, of hints of its function. The first argument is the place of the body, from
+-- The hints that no operator of the body takes, of hints of its function. The first argument is the place of the body, from
 -- which their offsets count.
 abbrev pub left_in_body : ℕ → List (Placed HintValue) → List (Placed Operator) → List (Placed HintValue)
 left_in_body body hints [] = hints
@@ -25,7 +25,7 @@ abbrev pub hints_in : List FunctionHints → List (Placed HintValue)
 hints_in [] = []
 hints_in (e ∷ es) = e.hints ++ hints_in es
 
--- The hints that no operator of the functions has. The first function has the index i.
+-- The hints that no operator of the functions takes. The first function has the index i.
 abbrev pub left_hints : ℕ → List PlacedFunction → List FunctionHints → List (Placed HintValue)
 left_hints i [] es = hints_in es
 left_hints i (f ∷ fs) es =

@@ -125,7 +125,7 @@ in_name count place x end =
     if nat_lt x.0 count then if_longer Name place end (unsigned_len x.0 + bytes_len x.1)
     else finding place NameOfNothing (end - place) ∷ []
 
--- Names of so many items.
+-- Names of items, of which there are `count`.
 abbrev pub name_map : ℕ → Input → Reading
 name_map count at = read_list (read_value association.parse (in_name count)) at
 
