@@ -37,7 +37,7 @@ const OPTION_START: &str = "--";
 /// Each line after the first begins with its place.
 const OFFSETS: &str = "--offsets";
 
-/// Bodies, items of element segments, and bytes of data segments and custom sections are left out.
+/// Bodies, items of element segments, and bytes of data segments and `(@custom ..)` are left out.
 const SKELETON: &str = "--skeleton";
 
 /// Identifiers are synthesized for items without a name.

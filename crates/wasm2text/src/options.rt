@@ -12,7 +12,7 @@ pub enum Flag {
     Version,
     /// Each line after the first begins with its place.
     PrintOffsets,
-    /// Bodies, items of element segments, and bytes of data segments and custom sections are left out.
+    /// Bodies, items of element segments, and bytes of data segments and `(@custom ..)` are left out.
     Skeleton,
     /// Identifiers are synthesized for items without a name.
     NameUnnamed,

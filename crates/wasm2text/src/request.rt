@@ -26,7 +26,7 @@ pub struct Request<'a> {
     pub version: bool,
     /// Each line after the first begins with its place.
     pub print_offsets: bool,
-    /// Bodies, items of element segments, and bytes of data segments and custom sections are left out.
+    /// Bodies, items of element segments, and bytes of data segments and `(@custom ..)` are left out.
     pub skeleton: bool,
     /// Identifiers are synthesized for items without a name.
     pub name_unnamed: bool,

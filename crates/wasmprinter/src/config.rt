@@ -64,7 +64,7 @@ impl Config {
         self
     }
 
-    /// Sets whether bodies, items of element segments, and bytes of data segments and custom sections are left
+    /// Sets whether bodies, items of element segments, and bytes of data segments and `(@custom ..)` are left
     /// out. Returns `self` (`itself`); the other options stay as they are (`options`).
     ///
     /// With a module `IDENTITY` whose only function returns its parameter:

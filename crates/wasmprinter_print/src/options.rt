@@ -19,8 +19,7 @@ const SPACES: &str =
 pub struct PrintOptions {
     /// Whether each line after the first begins with its place, in a comment.
     pub offsets: bool,
-    /// Whether bodies, the items of element segments, and the bytes of data segments and custom sections are left
-    /// out.
+    /// Whether bodies, the items of element segments, and the bytes of data segments and `(@custom ..)` are left out.
     pub skeleton: bool,
     /// Whether identifiers are synthesized for items without a name.
     pub synthesizes: bool,
