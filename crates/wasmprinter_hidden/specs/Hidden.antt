@@ -1,22 +1,22 @@
 -- What the text of a module does not show: bytes that a shorter encoding of the same module does not have, sections without
--- entries, names of nothing, and hints that no operator takes. Each part is compared by itself. These are not among it: how
--- locals are grouped, and the data count; of custom sections, names that a later name replaces, the order of names and how they
--- are divided, empty lists, sections without data, a count of names that is greater than the number of names, longer numbers in
--- the data of others than `name`, and the places of sections that are not printed as such.
-use Rattle.std.specs.Prelude.{◌≡◌, ℕ, ◌+◌, ◌-◌, List, [], ◌∷◌, ◌++◌, length, map, drop, nat_lt, ◌==◌, if◌then◌else◌, codes, bytes_eq, Option, Some, None}
+-- entries, names of nothing, names that are replaced, and hints that no operator takes. Each part is compared by itself. These
+-- are not among it: how locals are grouped, and the data count; of custom sections, the order of names, equal names that are
+-- given twice, how names, fields and symbols are divided into lists, and the places of sections that are not printed as such.
+use Rattle.std.specs.Prelude.{◌≡◌, ℕ, ◌+◌, ◌-◌, List, [], ◌∷◌, ◌++◌, length, map, drop, nat_lt, ◌==◌, Bool, false, if◌then◌else◌, codes, bytes_eq, Option, Some, None}
 use Rattle.wasmprinter_spec.specs.Grammar.{Input, input, Spans, Grammar, Placed, byte, seq, map_value, value_with_place}
 use Rattle.wasmprinter_spec.specs.Sized.{take_bytes}
 use Rattle.wasmprinter_spec.specs.Name.{u32}
 use Rattle.wasmprinter_spec.specs.Placed.{PlacedModule, PlacedFunction, Body, Custom, CustomEntry}
 use Rattle.wasmprinter_spec.specs.Binary.{Spells, preamble_bytes}
 use Rattle.wasmprinter_spec.specs.Sections.{kind_of, Kind, CustomSection, TypeSection, ImportSection, FunctionSection, TableSection, MemorySection, TagSection, GlobalSection, ExportSection, StartSection, ElementSection, DataCountSection, CodeSection, DataSection}
-use Rattle.wasmprinter_spec.specs.Customs.{name_section}
+use Rattle.wasmprinter_spec.specs.Customs.{name_section, custom_treatment_of}
 use Rattle.wasmprinter_hidden.specs.Findings.{any_section, finding, if_longer}
 use Rattle.wasmprinter_hidden.specs.HiddenNames.{in_names}
-use Rattle.wasmprinter_hidden.specs.HiddenHints.{in_hints}
+use Rattle.wasmprinter_hidden.specs.HiddenHints.{in_hints, gives_no_hints}
+use Rattle.wasmprinter_hidden.specs.HiddenData.{in_treatment, is_empty}
 use Rattle.wasmprinter_hidden.specs.Lengths.{unsigned_len, list_len, bytes_len, group_len, memory_type_len, tag_len, import_len, export_len, table_len, global_len, element_len, data_len, local_entry_len, operator_len}
 use Rattle.wasmprinter_hidden.specs.declared.finding.Part.{Part}
-use Rattle.wasmprinter_hidden.specs.declared.finding.Part.TheVariants.{Section, SectionSize, Count, Contents, Entry, CustomName, BodySize, LocalCount, LocalGroup, Instruction}
+use Rattle.wasmprinter_hidden.specs.declared.finding.Part.TheVariants.{Section, SectionSize, Count, Contents, Entry, CustomName, EmptyCustom, BodySize, LocalCount, LocalGroup, Instruction}
 use Rattle.wasmprinter_hidden.specs.declared.finding.Finding.{Finding}
 
 -- ---- The sections as they follow each other (section 5.5 of the standard, "Sections")
@@ -145,13 +145,26 @@ abbrev pub in_data : PlacedModule → List CustomEntry → Custom → List Findi
 in_data m later c =
     if bytes_eq c.name name_section then in_names m c.bytes
     else if bytes_eq c.name (codes "metadata.code.branch_hint") then in_hints m later c.bytes
-    else []
+    else in_treatment c.bytes (custom_treatment_of c)
 
--- The findings in the first of these custom sections: in its name, and in its data.
+-- The section is a name section without data, or a section with branch hints that gives no hints.
+abbrev pub is_empty_custom : Custom → Bool
+is_empty_custom c =
+    if bytes_eq c.name name_section then is_empty c.bytes.value
+    else if bytes_eq c.name (codes "metadata.code.branch_hint") then gives_no_hints c.bytes
+    else false
+
+-- The findings in a custom section: the whole section from its name on if it is empty, otherwise those in its name and in its
+-- data.
+abbrev pub in_custom_section : PlacedModule → List CustomEntry → Placed Custom → List Finding
+in_custom_section m later c =
+    if is_empty_custom c.value then finding c.place EmptyCustom (c.value.bytes.place + length c.value.bytes.value - c.place) ∷ []
+    else if_longer CustomName c.place c.value.bytes.place (bytes_len c.value.name) ++ in_data m later c.value
+
+-- The findings in the first of these custom sections.
 abbrev pub in_first_custom : PlacedModule → List CustomEntry → List Finding
 in_first_custom m [] = []
-in_first_custom m (c ∷ cs) =
-    if_longer CustomName c.section.place c.section.value.bytes.place (bytes_len c.section.value.name) ++ in_data m cs c.section.value
+in_first_custom m (c ∷ cs) = in_custom_section m cs c.section
 
 -- The findings in sections that follow each other. Their custom sections are the first of these.
 abbrev pub in_sections : PlacedModule → List CustomEntry → List Extent → List Finding

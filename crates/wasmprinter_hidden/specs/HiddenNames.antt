@@ -1,7 +1,7 @@
 -- What the text of a module does not show of a name section (appendix "Name Section" of the standard, and the extended name
--- section proposal): names of nothing, subsections with an unknown id, bytes that are not read, and numbers with more bytes
--- than needed.
-use Rattle.std.specs.Prelude.{ℕ, zero, suc, ◌+◌, ◌-◌, List, [], ◌∷◌, ◌++◌, length, map, Bool, true, false, ◌&&◌, ◌==◌, nat_lt, if◌then◌else◌, Option, Some, None, slice_get, unwrap_or, option_map}
+-- section proposal): names of nothing, names that are replaced, subsections with an unknown id or without names, functions and
+-- types without names, bytes that are not read, missing names, and numbers with more bytes than needed.
+use Rattle.std.specs.Prelude.{◌≡◌, ℕ, zero, suc, ◌+◌, ◌-◌, List, [], ◌∷◌, ◌++◌, length, map, Bool, true, false, not, ◌&&◌, ◌||◌, ◌==◌, nat_lt, bytes_eq, if◌then◌else◌, Option, Some, None, slice_get, unwrap_or, option_map}
 use Rattle.std.specs.List.{filter}
 use Rattle.wasmprinter_spec.specs.Grammar.{Input, input, Placed, ◌>>=◌}
 use Rattle.wasmprinter_spec.specs.Repeated.{some_or}
@@ -12,11 +12,13 @@ use Rattle.wasmprinter_spec.specs.Instructions.{roles}
 use Rattle.wasmprinter_spec.specs.Placed.{PlacedModule, PlacedFunction, LocalEntry}
 use Rattle.wasmprinter_spec.specs.Module.{groups_of, without_places, imported_types, func_import, table_import, memory_import, global_import, tag_import}
 use Rattle.wasmprinter_spec.specs.HintsOfModule.{body_at}
-use Rattle.wasmprinter_spec.specs.Names.Section.{association, is_indirect, module_subsection, function_subsection, local_subsection, label_subsection, type_subsection, table_subsection, memory_subsection, global_subsection, elem_subsection, data_subsection, field_subsection, tag_subsection}
-use Rattle.wasmprinter_hidden.specs.Lengths.{unsigned_len, bytes_len}
+use Rattle.wasmprinter_spec.specs.ModuleNames.{name_entries, entries_given}
+use Rattle.wasmprinter_spec.specs.Names.Content.{name_of}
+use Rattle.wasmprinter_spec.specs.Names.Section.{Entry, entry_of, association, is_indirect, module_subsection, function_subsection, local_subsection, label_subsection, type_subsection, table_subsection, memory_subsection, global_subsection, elem_subsection, data_subsection, field_subsection, tag_subsection}
+use Rattle.wasmprinter_hidden.specs.Lengths.{unsigned_len, bytes_len, association_len}
 use Rattle.wasmprinter_hidden.specs.Findings.{finding, if_longer, any_section}
 use Rattle.wasmprinter_hidden.specs.declared.finding.Part.{Part}
-use Rattle.wasmprinter_hidden.specs.declared.finding.Part.TheVariants.{NameSubsection, NameSubsectionSize, NameCount, NameOwner, Name, NameOfNothing, UnreadNames}
+use Rattle.wasmprinter_hidden.specs.declared.finding.Part.TheVariants.{NameSubsection, NameSubsectionSize, NameCount, NameOwner, OwnerWithoutNames, Name, NameOfNothing, ReplacedName, UnreadNames, MissingNames}
 use Rattle.wasmprinter_hidden.specs.declared.finding.Finding.{Finding}
 
 -- ---- What has names
@@ -80,37 +82,53 @@ inner_count m s outer =
     else if s == label_subsection then block_count m outer
     else field_count m outer
 
+-- ---- Which names count
+
+-- The name of an item, by the last entry for it in the name sections of the module. The numbers are those of `name_of`.
+abbrev pub counted_name : PlacedModule → ℕ → ℕ → ℕ → Option (List ℕ)
+counted_name m s outer index = name_of (name_entries m.customs) s outer index >>= λ n. n.given
+
+-- The item has another name than this one.
+abbrev pub is_replaced : PlacedModule → ℕ → ℕ → ℕ → List ℕ → Bool
+is_replaced m s outer index given = some_or (counted_name m s outer index) false (λ n. not (bytes_eq n given))
+
 -- ---- Reading up to the first error
 
--- Bytes that were read item by item: the findings in the items, the input that is left, and whether reading stopped at an
--- item that the bytes do not encode. Then the input that is left starts with that item.
+-- Bytes that were read item by item: the findings in the items, the names that they give, the input that is left, and whether
+-- reading stopped at an item that the bytes do not encode. Then the input that is left starts with that item.
 pub record Reading : Type 0 where
   pub found : List Finding
+  pub names : List Entry
   pub left : Input
   pub stopped : Bool
 
 -- The reading with these fields.
-abbrev pub reading : List Finding → Input → Bool → Reading
-reading found left stopped = record { found = found; left = left; stopped = stopped }
+abbrev pub reading : List Finding → List Entry → Input → Bool → Reading
+reading found names left stopped = record { found = found; names = names; left = left; stopped = stopped }
+
+-- Nothing was read, and reading stopped here.
+abbrev pub stop : Input → Reading
+stop at = reading [] [] at true
+
+-- Something that gives no names was read, up to this input.
+abbrev pub passed : List Finding → Input → Reading
+passed found after = reading found [] after false
 
 -- A reading, and unless it stopped, what is read after it.
 abbrev pub and_then : Reading → (Input → Reading) → Reading
 and_then r next =
-    if r.stopped then r else (let s : Reading = next r.left in reading (r.found ++ s.found) s.left s.stopped)
-
--- Reads a value. The findings in it depend on its place, the value, and the place after it.
-abbrev pub read_value : {A : Type 0} → (Input → Option (A × Input)) → (ℕ → A → ℕ → List Finding) → Input → Reading
-read_value parse in_value at = some_or (parse at) (reading [] at true) (λ x. reading (in_value at.place x.0 x.1.place) x.1 false)
+    if r.stopped then r
+    else (let s : Reading = next r.left in reading (r.found ++ s.found) (r.names ++ s.names) s.left s.stopped)
 
 -- Reads a number, and then what depends on it.
 abbrev pub read_number : Part → (ℕ → Input → Reading) → Input → Reading
 read_number part next at =
-    some_or (u32.parse at) (reading [] at true)
-    (λ x. and_then (reading (if_longer part at.place x.1.place (unsigned_len x.0)) x.1 false) (next x.0))
+    some_or (u32.parse at) (stop at)
+    (λ x. and_then (passed (if_longer part at.place x.1.place (unsigned_len x.0)) x.1) (next x.0))
 
 -- Reads n times.
 abbrev pub repeat : ℕ → (Input → Reading) → Input → Reading
-repeat zero read at = reading [] at false
+repeat zero read at = passed [] at
 repeat (suc n) read at = and_then (read at) (repeat n read)
 
 -- Reads a count n, and then n times.
@@ -119,30 +137,55 @@ read_list read at = read_number NameCount (λ n. repeat n read) at
 
 -- ---- A name section
 
--- The findings in a name with its index: it is the name of nothing if there are no more than `index` such items.
-abbrev pub in_name : ℕ → ℕ → ℕ × List ℕ → ℕ → List Finding
-in_name count place x end =
-    if nat_lt x.0 count then if_longer Name place end (unsigned_len x.0 + bytes_len x.1)
+-- The findings in a name, which has `len` bytes in its shortest encoding: the text does not have it if it is replaced.
+abbrev pub in_given : Bool → ℕ → ℕ → ℕ → List Finding
+in_given replaced place len end =
+    if replaced then finding place ReplacedName (end - place) ∷ [] else if_longer Name place end len
+
+-- The findings in a name with its index, in the subsection s and in the function or type `outer` (0 if the item is in neither).
+-- It is the name of nothing if there are no more than `index` such items.
+abbrev pub in_name : PlacedModule → ℕ → ℕ → ℕ → ℕ → ℕ × List ℕ → ℕ → List Finding
+in_name m s outer count place x end =
+    if nat_lt x.0 count then in_given (is_replaced m s outer x.0 x.1) place (association_len x) end
     else finding place NameOfNothing (end - place) ∷ []
 
--- Names of items, of which there are `count`.
-abbrev pub name_map : ℕ → Input → Reading
-name_map count at = read_list (read_value association.parse (in_name count)) at
+-- A name with its index. There are `count` such items.
+abbrev pub item_name : PlacedModule → ℕ → ℕ → ℕ → Input → Reading
+item_name m s outer count at =
+    some_or (association.parse at) (stop at)
+    (λ x. reading (in_name m s outer count at.place x.0 x.1.place) (entry_of s outer x.0 ∷ []) x.1 false)
 
--- A function or type, and its names.
+-- Names of items, of which there are `count`.
+abbrev pub name_map : PlacedModule → ℕ → ℕ → ℕ → Input → Reading
+name_map m s outer count at = read_list (item_name m s outer count) at
+
+-- The input after a function or type without names, if the input starts with one: its index, and the count 0.
+abbrev pub after_no_names : Input → Option Input
+after_no_names at = u32.parse at >>= λ x. u32.parse x.1 >>= λ y. if y.0 == 0 then Some y.1 else None
+
+-- A function or type with names, and its names.
+abbrev pub owned_names : PlacedModule → ℕ → Input → Reading
+owned_names m s at = read_number NameOwner (λ outer. name_map m s outer (inner_count m s outer)) at
+
+-- A function or type, and its names. It is a finding as a whole if it has none.
 abbrev pub inner_map : PlacedModule → ℕ → Input → Reading
-inner_map m s at = read_number NameOwner (λ outer. name_map (inner_count m s outer)) at
+inner_map m s at =
+    some_or (after_no_names at) (owned_names m s at)
+    (λ after. passed (finding at.place OwnerWithoutNames (after.place - at.place) ∷ []) after)
 
 -- The name of the module.
-abbrev pub module_name : Input → Reading
-module_name at = read_value name.parse (λ place x end. if_longer Name place end (bytes_len x)) at
+abbrev pub module_name : PlacedModule → Input → Reading
+module_name m at =
+    some_or (name.parse at) (stop at)
+    (λ x. reading (in_given (is_replaced m module_subsection 0 0 x.0) at.place (bytes_len x.0) x.1.place)
+        (entry_of module_subsection 0 (0, x.0) ∷ []) x.1 false)
 
 -- The content of a subsection with a known id.
 abbrev pub content : PlacedModule → ℕ → Input → Reading
 content m s at =
-    if s == module_subsection then module_name at
+    if s == module_subsection then module_name m at
     else if is_indirect s then read_list (inner_map m s) at
-    else name_map (item_count m s) at
+    else name_map m s 0 (item_count m s) at
 
 -- The bytes that are left, if there are any. Nothing reads them.
 abbrev pub unread : Input → List Finding
@@ -150,32 +193,49 @@ unread at = if length at.bytes == 0 then [] else finding at.place UnreadNames (l
 
 -- What was read of the content of a subsection, which ends before the input `after`.
 abbrev pub at_end_of : Input → Reading → Reading
-at_end_of after r = if r.stopped then r else reading (r.found ++ unread r.left) after false
+at_end_of after r = if r.stopped then r else reading (r.found ++ unread r.left) r.names after false
 
 -- A subsection with a known id, whose size starts at the place.
 abbrev pub known_subsection : PlacedModule → ℕ → ℕ → Placed (List ℕ) → Input → Reading
 known_subsection m size s c after =
-    and_then (reading (if_longer (NameSubsectionSize s) size c.place (unsigned_len (length c.value))) after false)
+    and_then (passed (if_longer (NameSubsectionSize s) size c.place (unsigned_len (length c.value))) after)
     (λ _. at_end_of after (content m s (input c.place c.value)))
 
--- A subsection: an id, a size, and the content. One with an unknown id is not read.
+-- The content starts with the count 0.
+abbrev pub is_empty_list : Placed (List ℕ) → Bool
+is_empty_list c = some_or (u32.parse (input c.place c.value)) false (λ x. x.0 == 0)
+
+-- A subsection with this id and content gives no names: its id is unknown, or it is a list without entries.
+abbrev pub gives_no_names : ℕ → Placed (List ℕ) → Bool
+gives_no_names s c = nat_lt tag_subsection s || (not (s == module_subsection) && is_empty_list c)
+
+-- A subsection: an id, a size, and the content. It is a finding as a whole if it gives no names.
 abbrev pub subsection : PlacedModule → Input → Reading
 subsection m at =
-    some_or (any_section.parse at) (reading [] at true)
+    some_or (any_section.parse at) (stop at)
     (λ ((s, c), after).
-    if nat_lt tag_subsection s then reading (finding at.place (NameSubsection s) (after.place - at.place) ∷ []) after false
+    if gives_no_names s c then passed (finding at.place (NameSubsection s) (after.place - at.place) ∷ []) after
     else known_subsection m (at.place + 1) s c after)
 
 -- The next subsection, if a byte is left.
 abbrev pub next_subsection : PlacedModule → Input → Reading
-next_subsection m at = if length at.bytes == 0 then reading [] at false else subsection m at
+next_subsection m at = if length at.bytes == 0 then passed [] at else subsection m at
 
--- What is not read before the place `end`, if reading stopped before it.
+-- The data of a name section. Each subsection takes a byte or more.
+abbrev pub name_data : PlacedModule → Placed (List ℕ) → Reading
+name_data m d = repeat (length d.value) (next_subsection m) (input d.place d.value)
+
+-- What is not read before the place `end`, if reading stopped: bytes, or names that the bytes do not have.
 abbrev pub after_stop : Reading → ℕ → List Finding
-after_stop r end = if r.stopped && nat_lt r.left.place end then finding r.left.place UnreadNames (end - r.left.place) ∷ [] else []
+after_stop r end =
+    if r.stopped then
+    (if nat_lt r.left.place end then finding r.left.place UnreadNames (end - r.left.place) ∷ [] else finding end MissingNames 0 ∷ [])
+    else []
 
--- The findings in the data of a name section. Each subsection takes a byte or more.
+-- The findings in the data of a name section.
 abbrev pub in_names : PlacedModule → Placed (List ℕ) → List Finding
-in_names m d =
-    let r : Reading = repeat (length d.value) (next_subsection m) (input d.place d.value) in
-    r.found ++ after_stop r (d.place + length d.value)
+in_names m d = (name_data m d).found ++ after_stop (name_data m d) (d.place + length d.value)
+
+-- The names that the findings are about are those that count: the entries that the data gives.
+abbrev pub NamesAreThoseGiven : Type 0
+NamesAreThoseGiven = (m : PlacedModule) (d : Placed (List ℕ)) → (name_data m d).names ≡ entries_given d

@@ -5,6 +5,9 @@ use Rattle.std.specs.Prelude.{ℕ, zero, suc, ℤ, pos, negsuc, ◌+◌, ◌*◌
 use Rattle.wasmprinter_spec.specs.Grammar.{Placed}
 use Rattle.wasmprinter_spec.specs.Types.{HeapType, Index as TypeIndex, RefType, ValType, Ref, StorageType, Val, FieldType, CompositeType, FuncComposite, ArrayComposite, StructComposite, SubType, Limits, TableType, MemoryType, GlobalType, ExternType, FuncExtern, TableExtern, MemoryExtern, GlobalExtern, TagExtern}
 use Rattle.wasmprinter_spec.specs.Operator.{Opcode, BlockType, Empty, Value, OfType, Catch, One, OneRef, All, AllRef, MemArg, Immediates, NoImmediates, Block, TryTable, Index, Indices, BranchTable, Types, Heap, Cast, Memory, MemoryLane, Lane, I32, I64, F32, F64, Bytes, Operator}
+use Rattle.wasmprinter_spec.specs.Customs.Producers.{Value as FieldValue, Field}
+use Rattle.wasmprinter_spec.specs.Customs.Dylink.{MemInfo, ExportInfo, ImportInfo, SubsectionContent, Sizes, Needed, Exports, Imports, Paths, Other}
+use Rattle.wasmprinter_spec.specs.Customs.Hints.{Hint, FunctionHints}
 use Rattle.wasmprinter_spec.specs.Placed.{TypeGroup, LocalEntry, Export, Import, Table, Global, ElementMode, Passive, Declared, Active, Items, Functions, Expressions, ElementEntry, DataMode, PassiveData, ActiveData, Data}
 
 -- ---- Numbers and lists (sections 5.1 and 5.2)
@@ -241,3 +244,51 @@ data_len d = 1 + data_mode_len d.mode + bytes_len d.bytes
 -- A group of locals: their number and their type.
 abbrev pub local_entry_len : LocalEntry → ℕ
 local_entry_len e = unsigned_len e.count + val_type_len e.type
+
+-- ---- The data of custom sections
+
+-- A name in a name section: its index, and the name (appendix "Name Section" of the standard).
+abbrev pub association_len : ℕ × List ℕ → ℕ
+association_len x = unsigned_len x.0 + bytes_len x.1
+
+-- A value of a field of `producers`: its name and its version (tool conventions, "Producers Section").
+abbrev pub field_value_len : FieldValue → ℕ
+field_value_len v = bytes_len v.name + bytes_len v.version
+
+-- A field of `producers`: its name and its values.
+abbrev pub field_len : Field → ℕ
+field_len f = bytes_len f.name + list_len (λ v. field_value_len v.value) f.values
+
+-- The memory and the table space of `dylink.0`: four numbers (tool conventions, "Dynamic Linking").
+abbrev pub mem_info_len : MemInfo → ℕ
+mem_info_len m = unsigned_len m.memory_size + unsigned_len m.memory_alignment + unsigned_len m.table_size + unsigned_len m.table_alignment
+
+-- An exported symbol: its name and its flags.
+abbrev pub export_info_len : ExportInfo → ℕ
+export_info_len e = bytes_len e.name + unsigned_len e.flags
+
+-- An imported symbol: two names, and its flags.
+abbrev pub import_info_len : ImportInfo → ℕ
+import_info_len i = bytes_len i.source + bytes_len i.name + unsigned_len i.flags
+
+-- The content of a subsection of `dylink.0`. That of an unknown subsection can be empty, since its bytes are no part of the
+-- value.
+abbrev pub dylink_content_len : SubsectionContent → ℕ
+dylink_content_len (Sizes m) = mem_info_len m
+dylink_content_len (Needed names) = list_len bytes_len names
+dylink_content_len (Exports es) = list_len export_info_len es
+dylink_content_len (Imports is) = list_len import_info_len is
+dylink_content_len (Paths names) = list_len bytes_len names
+dylink_content_len (Other id) = 0
+
+-- A subsection of `dylink.0`: its id, its size and its content.
+abbrev pub dylink_subsection_len : SubsectionContent → ℕ
+dylink_subsection_len content = 1 + unsigned_len (dylink_content_len content) + dylink_content_len content
+
+-- A branch hint: its offset, a byte for the size of its flag, and the flag (Code Metadata).
+abbrev pub hint_len : Hint → ℕ
+hint_len h = unsigned_len h.offset + 2
+
+-- The branch hints of a function: its index and the hints.
+abbrev pub function_hints_len : FunctionHints → ℕ
+function_hints_len e = unsigned_len e.function + list_len (λ h. hint_len h.value) e.hints

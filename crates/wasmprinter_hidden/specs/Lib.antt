@@ -2,6 +2,7 @@
 pub mod Extents
 pub mod Findings
 pub mod Hidden
+pub mod HiddenData
 pub mod HiddenHints
 pub mod HiddenNames
 pub mod HiddenOnce

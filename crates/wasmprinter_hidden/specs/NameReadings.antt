@@ -10,7 +10,7 @@ use Rattle.wasmprinter_hidden.specs.declared.finding.Part.TheVariants.{UnreadNam
 use Rattle.wasmprinter_hidden.specs.declared.finding.Finding.{Finding}
 
 -- The findings of the reading r were appended to the findings `old`, which gives `now`. The program is at the input `at`, and
--- `stopped` says whether it stopped.
+-- `stopped` says whether it stopped. The program does not keep the names.
 pub record IsRead (r : Reading) (old : List Finding) (at : Input) (now : List Finding) (stopped : Bool) : Type 0 where
   pub found : now ≡ old ++ r.found
   pub left : at ≡ r.left

@@ -16,6 +16,12 @@ pub enum Part {
     Entry(u8),
     /// The length and the bytes of the name of a custom section.
     CustomName,
+    /// A name section without data, or a section with branch hints without hints, from its name on.
+    EmptyCustom,
+    /// The data of a custom section with text of its own (`producers`, `dylink.0`), or of the section with branch hints that
+    /// counts. It is compared with the shortest encoding of its fields with values, its subsections with lines in the text,
+    /// or its functions with hints.
+    CustomData,
     /// The number that encodes the size of a body.
     BodySize,
     /// The number that encodes how many groups of locals a body has.
@@ -24,7 +30,7 @@ pub enum Part {
     LocalGroup,
     /// An instruction.
     Instruction,
-    /// A subsection of a name section whose id is unknown: this id.
+    /// A subsection of a name section that is not read because its id is unknown, or that is a list without entries: its id.
     NameSubsection(u8),
     /// The number that encodes the size of a subsection of a name section with this id.
     NameSubsectionSize(u8),
@@ -32,12 +38,18 @@ pub enum Part {
     NameCount,
     /// The index of a function or type, before names of its locals, labels or fields.
     NameOwner,
+    /// A function or type without names, among names of locals, labels or fields.
+    OwnerWithoutNames,
     /// A name with its index.
     Name,
     /// A name of something that the module does not have, with its index.
     NameOfNothing,
+    /// A name with its index, if a later name section or subsection gives the item another name.
+    ReplacedName,
     /// Bytes of a name section that are not read.
     UnreadNames,
+    /// The end of a name section that ends before the last name that it counts.
+    MissingNames,
     /// A branch hint that no instruction takes. Hints are taken in order: one that is not taken blocks the later ones.
     Hint,
     /// The data of a section with branch hints that is malformed, or that a later section with branch hints replaces.
@@ -51,8 +63,8 @@ pub struct Finding {
     pub place: u64,
     /// The part.
     pub part: Part,
-    /// The number of bytes that the shortest encoding of the part does not have. Of a section without entries, an unknown
-    /// subsection, a name of nothing, bytes that are not read and a hint section, the number of all bytes; of a hint, that
-    /// of its shortest encoding.
+    /// The number of bytes that the shortest encoding of the part does not have. Of a section, subsection, function or type
+    /// that gives nothing, a name of nothing, a replaced name, bytes that are not read and a hint section, the number of all
+    /// bytes; of a hint, that of its shortest encoding; 0 for missing names.
     pub extra: u64,
 }
