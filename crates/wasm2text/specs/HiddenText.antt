@@ -1,15 +1,16 @@
 -- The text of `--hidden`: a line for each finding in a module, which no text of the module shows.
-use Rattle.std.specs.Prelude.{◌≡◌, ◌↔◌, ◌⊎◌, ℕ, List, ◌++◌, flat_map, codes, decimal, ◌==◌, if◌then◌else◌, false, Option, Some, None}
+use Rattle.std.specs.Prelude.{◌≡◌, ◌↔◌, ◌⊎◌, ℕ, List, ◌++◌, flat_map, codes, decimal, ◌==◌, nat_lt, if◌then◌else◌, false, Option, Some, None}
 use Rattle.std.specs.Fmt.{digits}
 use Rattle.wasmprinter_bytes.specs.declared.library_error.Error.{Error}
 use Rattle.wasmprinter_bytes.specs.declared.library_error.Error.TheVariants.{Component, Memory}
 use Rattle.wasmprinter_spec.specs.Binary.{IsComponent}
 use Rattle.wasmprinter_spec.specs.Sections.{Kind, CustomSection, TypeSection, ImportSection, FunctionSection, TableSection, MemorySection, TagSection, GlobalSection, ExportSection, StartSection, ElementSection, DataCountSection, CodeSection, DataSection, kind_of}
+use Rattle.wasmprinter_spec.specs.Names.Section.{tag_subsection}
 use Rattle.wasmprinter_decoder.specs.Decoding.{HasDecodingReason}
 use Rattle.wasmprinter_hidden.specs.Hidden.{AreHidden}
 use Rattle.wasmprinter_hidden.specs.declared.finding.Finding.{Finding}
 use Rattle.wasmprinter_hidden.specs.declared.finding.Part.{Part}
-use Rattle.wasmprinter_hidden.specs.declared.finding.Part.TheVariants.{Section, SectionSize, Count, Contents, Entry, CustomName, BodySize, LocalCount, LocalGroup, Instruction, NameSubsection, NameSubsectionSize, NameCount, NameOwner, Name, NameOfNothing, UnreadNames, Hint, HintSection}
+use Rattle.wasmprinter_hidden.specs.declared.finding.Part.TheVariants.{Section, SectionSize, Count, Contents, Entry, CustomName, EmptyCustom, CustomData, BodySize, LocalCount, LocalGroup, Instruction, NameSubsection, NameSubsectionSize, NameCount, NameOwner, OwnerWithoutNames, Name, NameOfNothing, ReplacedName, UnreadNames, MissingNames, Hint, HintSection}
 use Rattle.wasm2text.specs.declared.cause.Cause.{Cause}
 use Rattle.wasm2text.specs.declared.cause.Cause.TheVariants.{Module}
 
@@ -41,6 +42,11 @@ section_text id = kind_word (kind_of id) ++ codes " section"
 abbrev pub count_text : ℕ → List ℕ
 count_text id = (if id == 10 then codes "count and first size of the " else codes "count of the ") ++ section_text id
 
+-- The subsection of a name section with this id, in words. It gives no names: its id is unknown, or its list is empty.
+abbrev pub subsection_text : ℕ → List ℕ
+subsection_text id =
+    (if nat_lt tag_subsection id then codes "unknown subsection " else codes "empty subsection ") ++ (decimal id ++ codes " of a name section")
+
 -- A part of a module, in words.
 abbrev pub part_text : Part → List ℕ
 part_text (Section id) = codes "empty " ++ section_text id
@@ -49,17 +55,22 @@ part_text (Count id) = count_text id
 part_text (Contents id) = codes "contents of the " ++ section_text id
 part_text (Entry id) = codes "entry of the " ++ section_text id
 part_text CustomName = codes "name of a custom section"
+part_text EmptyCustom = codes "empty custom section"
+part_text CustomData = codes "data of a custom section"
 part_text BodySize = codes "size of a function body"
 part_text LocalCount = codes "count of groups of locals"
 part_text LocalGroup = codes "group of locals"
 part_text Instruction = codes "instruction"
-part_text (NameSubsection id) = codes "unknown subsection " ++ (decimal id ++ codes " of a name section")
+part_text (NameSubsection id) = subsection_text id
 part_text (NameSubsectionSize id) = codes "size of subsection " ++ (decimal id ++ codes " of a name section")
 part_text NameCount = codes "count of names"
 part_text NameOwner = codes "index of a function or type with names"
+part_text OwnerWithoutNames = codes "function or type without names"
 part_text Name = codes "name"
 part_text NameOfNothing = codes "name of nothing"
+part_text ReplacedName = codes "replaced name"
 part_text UnreadNames = codes "unread bytes of a name section"
+part_text MissingNames = codes "missing names"
 part_text Hint = codes "unused branch hint"
 part_text HintSection = codes "malformed or replaced branch hints"
 

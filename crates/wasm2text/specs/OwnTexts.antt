@@ -41,7 +41,7 @@ help_lines =
     ∷ codes "With --hidden, a line is printed for each part of a module that no text shows,"
     ∷ codes "instead of the text: its byte offset, its name, and the number of its bytes that"
     ∷ codes "are not needed. Such parts are numbers and forms that are longer than needed,"
-    ∷ codes "sections without entries, and names and branch hints of nothing."
+    ∷ codes "empty sections and lists, and names and branch hints that are not used."
     ∷ codes ""
     ∷ codes "Exit status:"
     ∷ codes "  0  no file failed; the reader of the text may have closed the pipe"

@@ -39,7 +39,7 @@ functions are counted; or $ and the rest of its identifier, as '$find'.
 With --hidden, a line is printed for each part of a module that no text shows,
 instead of the text: its byte offset, its name, and the number of its bytes that
 are not needed. Such parts are numbers and forms that are longer than needed,
-sections without entries, and names and branch hints of nothing.
+empty sections and lists, and names and branch hints that are not used.
 
 Exit status:
   0  no file failed; the reader of the text may have closed the pipe

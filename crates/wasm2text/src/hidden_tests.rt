@@ -163,6 +163,18 @@ const LINE_ROWS: &[LineRow] = &[
         "0x100: name of a custom section, extra bytes: 4\n",
     ),
     (
+        256,
+        Part::EmptyCustom,
+        5,
+        "0x100: empty custom section, extra bytes: 5\n",
+    ),
+    (
+        257,
+        Part::CustomData,
+        1,
+        "0x101: data of a custom section, extra bytes: 1\n",
+    ),
+    (
         4095,
         Part::BodySize,
         4,
@@ -257,6 +269,18 @@ const NAME_ROWS: &[LineRow] = &[
         "0x0: unknown subsection 255 of a name section, extra bytes: 2\n",
     ),
     (
+        0,
+        Part::NameSubsection(12),
+        7,
+        "0x0: unknown subsection 12 of a name section, extra bytes: 7\n",
+    ),
+    (
+        0,
+        Part::NameSubsection(11),
+        3,
+        "0x0: empty subsection 11 of a name section, extra bytes: 3\n",
+    ),
+    (
         1,
         Part::NameSubsectionSize(0),
         1,
@@ -274,7 +298,19 @@ const NAME_ROWS: &[LineRow] = &[
         1,
         "0x3: index of a function or type with names, extra bytes: 1\n",
     ),
+    (
+        3,
+        Part::OwnerWithoutNames,
+        2,
+        "0x3: function or type without names, extra bytes: 2\n",
+    ),
     (4, Part::Name, 1, "0x4: name, extra bytes: 1\n"),
+    (
+        4,
+        Part::ReplacedName,
+        3,
+        "0x4: replaced name, extra bytes: 3\n",
+    ),
     (
         5,
         Part::NameOfNothing,
@@ -286,6 +322,12 @@ const NAME_ROWS: &[LineRow] = &[
         Part::UnreadNames,
         1,
         "0x6: unread bytes of a name section, extra bytes: 1\n",
+    ),
+    (
+        6,
+        Part::MissingNames,
+        0,
+        "0x6: missing names, extra bytes: 0\n",
     ),
     (
         7,

@@ -1,7 +1,7 @@
 //! What no text of a module shows, as text.
 ghost use Rattle.std.specs.Prelude.{◌≡◌, ◌++◌, Some, IfOk, IfErr, flat_map, string_bytes};
 ghost use Rattle.std.specs.Fmt.{WritesOnOk};
-ghost use Rattle.wasm2text.specs.HiddenText.{kind_word, section_text, part_text, finding_line, IsHiddenText, IsHiddenRefusal};
+ghost use Rattle.wasm2text.specs.HiddenText.{kind_word, section_text, subsection_text, part_text, finding_line, IsHiddenText, IsHiddenRefusal};
 ghost use Rattle.wasmprinter_spec.specs.Sections.{kind_of};
 
 use crate::cause::Cause;
@@ -12,7 +12,7 @@ use wasmprinter_hidden::finding::{Finding, Part};
 use wasmprinter_hidden::hidden;
 
 /// Returns what no text of a module shows: a line for each part that has a longer encoding than needed, for each section
-/// without entries, and for names and branch hints of nothing.
+/// or list without entries, and for names and branch hints that are not used.
 ///
 /// # Errors
 ///
@@ -68,20 +68,40 @@ impl fmt::Display for PartText {
             Part::Contents(id) => write_section(f, "contents of the ", id),
             Part::Entry(id) => write_section(f, "entry of the ", id),
             Part::CustomName => f.write_str("name of a custom section"),
+            Part::EmptyCustom => f.write_str("empty custom section"),
+            Part::CustomData => f.write_str("data of a custom section"),
             Part::BodySize => f.write_str("size of a function body"),
             Part::LocalCount => f.write_str("count of groups of locals"),
             Part::LocalGroup => f.write_str("group of locals"),
             Part::Instruction => f.write_str("instruction"),
-            Part::NameSubsection(id) => write!(f, "unknown subsection {id} of a name section"),
+            Part::NameSubsection(id) => write_subsection(f, id),
             Part::NameSubsectionSize(id) => write!(f, "size of subsection {id} of a name section"),
             Part::NameCount => f.write_str("count of names"),
             Part::NameOwner => f.write_str("index of a function or type with names"),
+            Part::OwnerWithoutNames => f.write_str("function or type without names"),
             Part::Name => f.write_str("name"),
             Part::NameOfNothing => f.write_str("name of nothing"),
+            Part::ReplacedName => f.write_str("replaced name"),
             Part::UnreadNames => f.write_str("unread bytes of a name section"),
+            Part::MissingNames => f.write_str("missing names"),
             Part::Hint => f.write_str("unused branch hint"),
             Part::HintSection => f.write_str("malformed or replaced branch hints"),
         }
+    }
+}
+
+/// The last known id of a subsection of a name section (the extended name section proposal).
+const LAST_SUBSECTION: u8 = 11;
+
+/// Writes the subsection of a name section with this id, in words. It gives no names: its id is unknown, or its list is
+/// empty.
+fn write_subsection<W: fmt::Write>(f: &mut fmt::Formatter<W>, id: u8) -> fmt::Result
+    ensures { WritesOnOk W.write_str_gives f.old result (subsection_text id) f.new }
+{
+    if id > LAST_SUBSECTION {
+        write!(f, "unknown subsection {id} of a name section")
+    } else {
+        write!(f, "empty subsection {id} of a name section")
     }
 }
 
