@@ -130,4 +130,9 @@ while read -r message; do
 done <messages
 bash -c '. "$0"; COMP_WORDS=(printwasm --f) COMP_CWORD=1; _printwasm; echo "${COMPREPLY[@]}"' "$root/completions/printwasm.bash" >completed
 echo --fold | expect "completion in bash" completed
+for words in '--color al' '--color = al' '-f --color = al'; do
+    # shellcheck disable=SC2086 # a word for each argument
+    bash -c '. "$0"; COMP_WORDS=(wasm2text "$@"); COMP_CWORD=$#; _wasm2text; echo "${COMPREPLY[@]}"' "$root/completions/wasm2text.bash" $words >completed
+    echo always | expect "completion in bash: $words" completed
+done
 echo 'packaging: the library and the installed files are as typed'
