@@ -13,7 +13,7 @@ use wasmprinter_bytes::Error;
 use wasmprinter_custom::Identifiers;
 use wasmprinter_decoder::{Module, decode};
 use wasmprinter_flat::open_labels::OpenLabels;
-use wasmprinter_fold::fold_checks::check_folding;
+use wasmprinter_fold::fold_refusals::check_folding;
 use wasmprinter_module_text::print_module;
 use wasmprinter_print::{Print, PrintOptions};
 

@@ -5,12 +5,12 @@
 //! - `nodes`: the nodes that operators fold into, as one list.
 //! - `node_text`: their texts in one buffer, and the function that writes them without recursion.
 //! - [`Folder`] folds a list of operators and writes its nodes.
-//! - `fold_checks`: which modules can be folded, and the error for the others.
+//! - `fold_refusals`: which modules can be folded, and the error for the others.
 #![tactic(auto)]
 
 mod arities;
-pub mod fold_checks;
 mod fold_printer;
+pub mod fold_refusals;
 mod growing_tree;
 mod node_text;
 mod nodes;

@@ -138,9 +138,10 @@ fn write_group_parts<O: FoldingOutput>(
     write_grouped_expr(out, scope, expression);
 }
 
-/// Writes a constant expression as a group, at nesting depth 2. The group begins with the keyword unless the expression
-/// is a single operator, which is never folded. Any other is written as by [`write_constant`], one level deeper. If a
-/// line begins in it, the group closes on a line of its own. `scope` is working memory and means the same afterwards.
+/// Writes a constant expression as a group, at nesting depth 2. A single operator is alone in the group, without the
+/// keyword, and flat even if operators are folded. Any other expression, also an empty one, comes after the keyword and a
+/// space, as [`write_constant`] writes it, but at nesting depth 3. If a line begins in the group, the group closes on a
+/// line of its own. `scope` is working memory and means the same afterwards.
 #[tactic(auto, unfolding(wasmprinter_spec::specs::Layout::Expressions::constant_group))]
 pub fn write_constant_group<O: FoldingOutput>(
     out: &mut O,

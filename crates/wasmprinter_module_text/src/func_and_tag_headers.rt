@@ -9,9 +9,10 @@ use crate::printing_scope::{Scope, write_declaration_in, write_type_use_in};
 use wasmprinter_custom::Space;
 use wasmprinter_print::Output;
 
-/// Writes the header of the function with the index `number`: its declaration, a space and its type, as an index and,
-/// if that is of a function type, with parameters and results. The parameters have the identifiers of that function's
-/// locals (`Some number`).
+/// Writes the header of a function, which follows `(func ` in the text. `number` is the index of the function; imported
+/// functions are counted. The header consists of the declaration ([`write_declaration_in`]), a space, and the type: its
+/// index and, if that is of a function type, parameters and results. The parameters have the identifiers of the locals
+/// of the same function (`Some number`).
 #[tactic(auto, unfolding(wasmprinter_spec::specs::Layout::Functions::header_pieces))]
 pub fn write_function_header<O: Output>(
     out: &mut O,

@@ -252,10 +252,10 @@ fn write_sub_type<O: Output>(
     }
 }
 
-/// Writes the definition of the type with the index `number` as one group `(type ..)` in one line, without a line break
-/// before it: its declaration as [`write_declaration_of`] does, a space, and its subtype. A final type without
-/// supertypes is written as its composite type alone, any other as a group `(sub ..)`. The fields of a structure type
-/// have the identifiers of those of type `number`.
+/// Writes the type with the index `number` as one group on the current line: `(type`, its identifier if it has one, the
+/// comment `(;number;)` ([`write_declaration_of`]), and its subtype. A final type without supertypes is written as its
+/// composite type alone, any other as a group `(sub ..)`. The fields of a structure type have the identifiers that the
+/// module gives to the fields of type `number`.
 #[tactic(auto, unfolding(wasmprinter_spec::specs::Layout::Types::type_pieces, wasmprinter_spec::specs::Layout::Groups::line_group_space))]
 pub fn write_type_field<O: Output>(
     out: &mut O,

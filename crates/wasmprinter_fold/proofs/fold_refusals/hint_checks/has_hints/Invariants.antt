@@ -2,7 +2,7 @@
 use Rattle.std.proofs.Common.{◌≡◌, drop, codes, None}
 use Rattle.std.specs.Prelude.{is_some}
 use Rattle.wasmprinter_spec.specs.Customs.Hints.{last_named}
-use Rattle.wasmprinter_fold.proofs.fold_checks.hint_checks.has_hints.Given as goal
+use Rattle.wasmprinter_fold.proofs.fold_refusals.hint_checks.has_hints.Given as goal
 
 abbrev pub invariant-loop-entry : goal.invariant-loop-entry
 invariant-loop-entry l =

@@ -6,7 +6,7 @@ ghost use Rattle.wasmprinter_spec.specs.Folding.Refusals.{legacy_places_in, init
 ghost use Rattle.wasmprinter_decoder.specs.Segments.{element_mode_view, element_items_view};
 ghost use Rattle.wasmprinter_fold.specs.Refused.{error_of_first};
 
-use crate::fold_checks::legacy_operator_checks::check_expression;
+use crate::fold_refusals::legacy_operator_checks::check_expression;
 use wasmprinter_bytes::Error;
 use wasmprinter_decoder::{
     BodyParts, Data, DataMode, Element, ElementItems, ElementMode, Fields, Global, Module, Table,

@@ -3,7 +3,7 @@ use Rattle.wasmprinter_bytes.specs.declared.library_error.Error.TheVariants.{Fol
 use Rattle.wasmprinter_spec.specs.Types.{FuncKind}
 use Rattle.wasmprinter_decoder.specs.Externs.{imported_count}
 use Rattle.wasmprinter_fold.proofs.Steps.{front_refused, front_passed, handed_on, hints_next, unhinted, hintless}
-use Rattle.wasmprinter_fold.proofs.fold_checks.hint_checks.check_hints.Goals as goal
+use Rattle.wasmprinter_fold.proofs.fold_refusals.hint_checks.check_hints.Goals as goal
 
 pub returns-then-not-has_hints : goal.returns-then-not-has_hints
 returns-then-not-has_hints c =

@@ -5,7 +5,7 @@ use Rattle.wasmprinter_spec.specs.Table.{role_of}
 use Rattle.wasmprinter_spec.specs.Folding.Code.{is_try}
 use Rattle.wasmprinter_fold.specs.Refused.{error_of_first}
 use Rattle.wasmprinter_fold.proofs.Steps.{legacy_next}
-use Rattle.wasmprinter_fold.proofs.fold_checks.legacy_operator_checks.check_expression.Goals as goal
+use Rattle.wasmprinter_fold.proofs.fold_refusals.legacy_operator_checks.check_expression.Goals as goal
 
 pub returns-then-is_of_try : goal.returns-then-is_of_try
 returns-then-is_of_try c =

@@ -2,7 +2,7 @@ use Rattle.std.proofs.Common.{◌≡◌, get_or, sym, subst, ◌∙◌, codes}
 use Rattle.wasmprinter_spec.specs.Placed.{CustomEntry, custom_entry}
 use Rattle.wasmprinter_decoder.specs.Places.{after_view}
 use Rattle.wasmprinter_fold.proofs.Steps.{one_named}
-use Rattle.wasmprinter_fold.proofs.fold_checks.hint_checks.has_hints.Goals as goal
+use Rattle.wasmprinter_fold.proofs.fold_refusals.hint_checks.has_hints.Goals as goal
 
 pub returns-then-is_hint_section : goal.returns-then-is_hint_section
 returns-then-is_hint_section c =

@@ -5,7 +5,7 @@ use Rattle.wasmprinter_spec.specs.Placed.{Body}
 use Rattle.wasmprinter_spec.specs.Folding.Refusals.{Operators, legacy_places_in}
 use Rattle.wasmprinter_fold.specs.Refused.{error_of_first}
 use Rattle.wasmprinter_fold.proofs.Steps.{front_refused, front_passed, handed_on, bodies_next}
-use Rattle.wasmprinter_fold.proofs.fold_checks.item_expressions.check_bodies.Goals as goal
+use Rattle.wasmprinter_fold.proofs.fold_refusals.item_expressions.check_bodies.Goals as goal
 
 pub returns-in_err-check_expression : goal.returns-in_err-check_expression
 returns-in_err-check_expression c =

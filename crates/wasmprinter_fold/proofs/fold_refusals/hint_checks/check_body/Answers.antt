@@ -3,7 +3,7 @@ use Rattle.wasmprinter_bytes.specs.declared.library_error.Error.TheVariants.{Fol
 use Rattle.wasmprinter_spec.specs.Operator.{Operator}
 use Rattle.wasmprinter_spec.specs.Table.{role_of}
 use Rattle.wasmprinter_fold.proofs.Steps.{front_refused, front_passed, handed_on, misplaced_next}
-use Rattle.wasmprinter_fold.proofs.fold_checks.hint_checks.check_body.Goals as goal
+use Rattle.wasmprinter_fold.proofs.fold_refusals.hint_checks.check_body.Goals as goal
 
 pub returns-in_err-check_hint : goal.returns-in_err-check_hint
 returns-in_err-check_hint c =

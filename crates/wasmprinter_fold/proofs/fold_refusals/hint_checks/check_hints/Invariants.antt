@@ -6,7 +6,7 @@ use Rattle.wasmprinter_spec.specs.Customs.Hints.{hints_of}
 use Rattle.wasmprinter_spec.specs.Folding.Refusals.{misplaced_hints_from}
 use Rattle.wasmprinter_decoder.specs.Externs.{imported_count}
 use Rattle.wasmprinter_fold.specs.Refused.{error_of_first}
-use Rattle.wasmprinter_fold.proofs.fold_checks.hint_checks.check_hints.Given as goal
+use Rattle.wasmprinter_fold.proofs.fold_refusals.hint_checks.check_hints.Given as goal
 
 abbrev pub invariant-loop-index : goal.invariant-loop-index
 invariant-loop-index l =

@@ -3,7 +3,7 @@ use Rattle.std.specs.Prelude.{◌≡◌}
 use Rattle.wasmprinter_bytes.specs.declared.library_error.Error.TheVariants.{FoldHint}
 use Rattle.wasmprinter_spec.specs.Folding.Refusals.{misplaced_hints_in}
 use Rattle.wasmprinter_fold.specs.Refused.{error_of_first}
-use Rattle.wasmprinter_fold.proofs.fold_checks.hint_checks.check_body.Given as goal
+use Rattle.wasmprinter_fold.proofs.fold_refusals.hint_checks.check_body.Given as goal
 
 abbrev pub invariant-loop-place : goal.invariant-loop-place
 invariant-loop-place l =

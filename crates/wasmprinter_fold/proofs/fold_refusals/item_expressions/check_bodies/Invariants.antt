@@ -4,7 +4,7 @@ use Rattle.std.specs.List.{flat_map}
 use Rattle.wasmprinter_bytes.specs.declared.library_error.Error.TheVariants.{FoldLegacy}
 use Rattle.wasmprinter_spec.specs.Folding.Refusals.{legacy_places_in}
 use Rattle.wasmprinter_fold.specs.Refused.{error_of_first}
-use Rattle.wasmprinter_fold.proofs.fold_checks.item_expressions.check_bodies.Given as goal
+use Rattle.wasmprinter_fold.proofs.fold_refusals.item_expressions.check_bodies.Given as goal
 
 abbrev pub invariant-loop-index : goal.invariant-loop-index
 invariant-loop-index l =
