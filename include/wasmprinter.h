@@ -120,7 +120,7 @@ typedef struct WasmprinterResult {
  *
  * A line ends where the next one starts, or at the end of the text. Its last byte is a line feed. Line feeds of the indent start no line.
  * A style lasts until the next style event, one of the kinds WASMPRINTER_NAME to WASMPRINTER_RESET. WASMPRINTER_RESET does not bring back an
- * earlier style. With WASMPRINTER_FOLD there are no style events inside the text of a folded operator. */
+ * earlier style. With WASMPRINTER_FOLD the only style events inside the text of a folded operator are those of the places of its lines. */
 enum {
     WASMPRINTER_LINE = 0,          /* a line without a place starts */
     WASMPRINTER_LINE_AT_PLACE = 1, /* a line with a place starts */
@@ -130,7 +130,7 @@ enum {
     WASMPRINTER_TYPE = 5,          /* the style of types starts */
     WASMPRINTER_COMMENT = 6,       /* the style of comments starts */
     WASMPRINTER_RESET = 7,         /* the style ends */
-    WASMPRINTER_CUSTOM_SECTION = 8 /* a custom section, printed, left out or not shown; `start` is before the line feed of the line before */
+    WASMPRINTER_CUSTOM_SECTION = 8 /* a custom section, printed, left out or not shown; `start` is before a line feed or the last parenthesis */
 };
 
 /* An event of the text. The events are in the order of printing: no `start` is less than the one before, and several can be equal. */

@@ -348,7 +348,7 @@ class Events {
     return Events(detail::print_whole(wasm, chosen, wasm.size() * (options.offsets ? 4 : 2) + 64));
 }
 
-// Returns the text of a module with ANSI escape sequences for colors. Folded operators have no colors.
+// Returns the text of a module with ANSI escape sequences for colors. In folded operators, only places have colors.
 [[nodiscard]] inline std::string print_ansi(std::string_view wasm, const Options &options = {}) {
     const Events events = print_events(wasm, options);
     std::string colored;

@@ -425,7 +425,7 @@ def print_ansi(
 ) -> str:
     """Returns the text of a module with ANSI escape sequences for colors. Raises a subclass of Error if it can't be printed.
 
-    Folded operators have no colors. The limit is that of the text without escape sequences.
+    In folded operators, only places have colors. The limit is that of the text without escape sequences.
     """
     events = print_events(
         data, offsets=offsets, skeleton=skeleton, name_unnamed=name_unnamed, fold=fold, indent=indent, limit=limit, omitted=omitted,

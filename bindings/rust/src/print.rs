@@ -8,7 +8,7 @@ use wasmprinter_proved_sys as sys;
 /// The methods are those of the trait in the crate `wasmprinter`, except `write_fmt`, `supports_async_color` and `print_custom_section`. There a
 /// printer claims custom sections with the last one. Here the whole text is printed before the first call, so a claim can't be honoured.
 ///
-/// A style lasts until another one starts, or until [`Print::reset_color`]. The text of folded operators has no styles.
+/// A style lasts until another one starts, or until [`Print::reset_color`]. In the text of folded operators, only places have styles.
 ///
 /// ```
 /// use std::io;
