@@ -47,7 +47,7 @@ def cited(roots):
 def code_lines(text):
     """Returns the lines of a file without comments, empty lines and imports."""
     lines = [line.split(" -- ")[0].rstrip() for line in text.splitlines()]
-    return [line for line in lines if line and not line.lstrip().startswith("--") and not line.startswith(("use ", "pub mod ", "mod "))]
+    return [line for line in lines if line and not line.lstrip().startswith("--") and not line.startswith(("use ", "pub use ", "pub mod ", "mod "))]
 
 
 def counted(lines):
