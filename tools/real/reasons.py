@@ -41,7 +41,7 @@ DIFFERENCES = (
 
 # Assembler (any if empty), pattern of a note on names or custom sections, and reason. The first row that matches applies.
 NOTES = (
-    ("", r"branch_hint", "in folded text it attaches a hint before a group to the group's first operand"),
+    ("", r"branch_hint", "in folded text it attaches a hint before a group to the group's innermost first operand"),
     ("wasm-tools", r"kind (field|local)", "writes no names of fields of types in an explicit `(rec ..)`, or of imported functions' parameters"),
     ("wasm-tools", r"another order", "writes `producers` after all other custom sections"),
     ("wat2wasm", r"another place", "writes all custom sections after the other sections"),
