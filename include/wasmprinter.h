@@ -11,9 +11,9 @@
  * Do not call a function from a signal handler, or in the forked child of a process with threads.
  *
  * Memory: the caller owns every buffer, and no function keeps a pointer after it returns. The functions that print
- * allocate with `malloc`, and free what they allocate before they return, except the block of wasmprinter_print_alloc. They write the text to
- * the caller's buffer while they print. When operators are folded, they first collect the text of a body's operators in memory that they
- * allocate.
+ * allocate with `malloc` and `realloc`, and free their blocks before they return, except the block of wasmprinter_print_alloc. They write the
+ * text to the caller's buffer while they print. When operators are folded, they first collect the text of a list of operators, as that of a
+ * body, in memory that they allocate.
  *
  * Pointers: if the `ptr` of a module, a list of names, a buffer or a table is null, it counts as empty, whatever its `len` is. `options`,
  * the `ptr` of an indent, `result`, `resize`, `context` and a name of length 0 may be null too. No other pointer may be null, and no pointer that is
@@ -87,9 +87,9 @@ enum {
     WASMPRINTER_MALFORMED = 1,          /* not in the binary format; detail: a place, see below */
     WASMPRINTER_COMPONENT = 2,          /* a component, not a module */
     WASMPRINTER_TOO_MANY_LOCALS = 3,    /* more than 50,000 locals in a function; detail: the place of its body */
-    WASMPRINTER_TOO_MANY_FUNCTIONS = 4, /* more than 1,000,000 functions; detail: their number */
+    WASMPRINTER_TOO_MANY_FUNCTIONS = 4, /* more than 1,000,000 functions without imports; detail: their number */
     WASMPRINTER_EMPTY_TABLE_INIT = 5,   /* a table whose initialiser has no operators; detail: the place of the table */
-    WASMPRINTER_FOLD_LEGACY = 6,        /* only with WASMPRINTER_FOLD: a legacy exception operator; detail: its place */
+    WASMPRINTER_FOLD_LEGACY = 6,        /* only with WASMPRINTER_FOLD: a try, catch, catch_all or delegate; detail: its place */
     WASMPRINTER_FOLD_HINT = 7,          /* only with WASMPRINTER_FOLD: a branch hint that has no position in folded text; detail: its place */
     WASMPRINTER_DYLINK_SUBSECTION = 8,  /* an unknown subsection of a `dylink.0` that is not left out; detail: the id of the first */
     WASMPRINTER_UNREADABLE = 9,         /* never returned: no function reads a file */
@@ -100,8 +100,8 @@ enum {
     WASMPRINTER_INVALID_LIST = 14       /* the list of names is cut off; detail: the byte offset in it of the length of the name that is cut off */
 };
 
-/* The place of WASMPRINTER_MALFORMED is that of the first unexpected byte, number or entry, or of bytes whose encoded length exceeds the bytes
- * that remain. In these cases it is another place:
+/* The place of WASMPRINTER_MALFORMED is that of an unexpected byte, number or entry (of any of several), or of bytes whose encoded length
+ * exceeds the bytes that remain. In these cases it is another place:
  * - A byte or number is missing: the end of the body, of the section or of the module.
  * - A float, a vector or a list of lanes is cut off: its first byte.
  * - An opcode after a prefix is undefined: the prefix.
@@ -146,7 +146,7 @@ typedef struct WasmprinterTable {
     size_t len; /* the capacity in events */
 } WasmprinterTable;
 
-/* ---- The exported functions. The functions below call them, and are easier to call. */
+/* ---- The exported functions. To print, the inline functions after them are easier to call. */
 
 /* Prints a module, as wasmprinter_print_lines does. `flags` are the options, and `table` receives the lines or the events. `limit` is the
  * greatest length of the text, and SIZE_MAX means no limit. With limit 0 every module that would be printed gives WASMPRINTER_TOO_LONG.
@@ -203,8 +203,8 @@ WASMPRINTER_INLINE size_t wasmprinter_add_name(WasmprinterBuffer list, size_t le
 }
 
 /* Prints the text of a module to `out`, as snprintf does: writes as many of the first bytes of the text as fit, and stores the length of
- * the whole text. The text is truncated if result->length > out.len. A call with an empty `out` only measures, and nothing is written if
- * out.ptr is null, even if result->length <= out.len. Writes a table of the starts of the lines to `lines`: as many of the first lines as fit,
+ * the whole text. The text is truncated if result->length > out.len. With an empty `out` the text is only measured,
+ * also if out.ptr is null and result->length <= out.len. Writes a table of the starts of the lines to `lines`: as many of the first lines as fit,
  * none if lines.ptr is null. With WASMPRINTER_EVENTS it does the same with all events. What follows the text in `out` and the last entry in
  * `lines` is unchanged.
  *
@@ -220,9 +220,9 @@ WASMPRINTER_INLINE size_t wasmprinter_add_name(WasmprinterBuffer list, size_t le
  * entries are not specified.
  *
  * The limit and out.len are independent. A text that is not longer than the limit is printed as without a limit. For any other text,
- * printing stops with WASMPRINTER_TOO_LONG before the text gets longer than the limit. The whole module is decoded before printing starts,
- * so the errors after which `out` is unchanged do not depend on the limit. With WASMPRINTER_FOLD the text of one body's operators is
- * collected before it is written, so the limit does not bound this memory.
+ * WASMPRINTER_TOO_LONG is returned, and no byte after the limit is written. The whole module is decoded before printing starts,
+ * so the errors after which `out` is unchanged do not depend on the limit. With WASMPRINTER_FOLD the text of one list of operators
+ * is collected before it is written, so the limit does not bound this memory.
  *
  * With an indent of spaces and tabs the text consists of printable ASCII characters, tabs and line feeds. If also
  * WASMPRINTER_SKELETON is not chosen, no custom section is left out, and every index that the module uses is declared and names an item of the

@@ -2,7 +2,7 @@
 //
 //     std::string text = wasmprinter::print(wasm);
 //
-// All functions are inline and call those of wasmprinter.h. Its head says how to link the library, and its statements on lengths, places
+// All functions are inline, and print by those of wasmprinter.h. Its head says how to link the library, and its statements on lengths, places
 // and threads hold here too. Each function that prints throws Error if the module can't be printed, std::bad_alloc if memory is missing, and
 // std::length_error if a name in Options::omitted has 4 GiB or more.
 #ifndef WASMPRINTER_HPP
@@ -43,7 +43,7 @@ struct Options {
     std::vector<std::string_view> omitted = {};
 };
 
-// The reason why a module was not printed. what() describes it: `malformed module at byte 0x1f`.
+// The reason why a module was not printed. what() describes it, as `malformed module at byte 0x1f`.
 class Error : public std::runtime_error {
   public:
     Error(WasmprinterStatus status, std::uint64_t detail)
@@ -53,7 +53,7 @@ class Error : public std::runtime_error {
     // never WASMPRINTER_MEMORY: then std::bad_alloc is thrown.
     WasmprinterStatus status() const noexcept { return status_; }
 
-    // Returns the place, the count or the id of the error, as wasmprinter.h describes it, or 0 if it has none.
+    // Returns the place, count, id or bits of the error, as wasmprinter.h describes it, or 0 if it has none.
     std::uint64_t detail() const noexcept { return detail_; }
 
   private:

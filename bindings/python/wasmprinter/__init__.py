@@ -14,7 +14,7 @@ Options of the functions that print:
 - fold puts each operator in parentheses with its operands.
 - indent is the text of one level of nesting, or a number of spaces.
 - limit is the greatest length of the text in bytes, or None. TooLong is raised for a longer text.
-- omitted has the names of custom sections to leave out, each a str or bytes-like. The names in a section `name` and the hints in a section
+- omitted has the names of custom sections to leave out, each a str or BytesLike. The names in a section `name` and the hints in a section
   `metadata.code.branch_hint` apply even if it is left out.
 """
 
@@ -340,7 +340,7 @@ def _first(memory: Union[mmap.mmap, bytes]) -> ctypes.c_uint8:
 def _print_whole(
     data: BytesLike, flags: int, indent: bytes, limit: int, names: bytes, text_per_entry: int,
 ) -> Tuple[memoryview, memoryview]:
-    """Returns the text in UTF-8, and the table of its lines or events, which is empty if it is not needed. Raises a subclass of Error.
+    """Returns the text in UTF-8, and the table of its lines or events, which is empty if it is not needed. Raises Error or a subclass.
 
     An entry of the table is expected for `text_per_entry` bytes of a text with _TABLE_TEXT_PER_BYTE bytes for each byte of the module. If
     `text_per_entry` is 0, the table is not needed. Nearly every module is printed once. It is printed again if its text or its table is longer than
@@ -372,7 +372,7 @@ def print_bytes(
     offsets: bool = False, skeleton: bool = False, name_unnamed: bool = False, fold: bool = False, indent: Union[str, int] = "  ",
     limit: Optional[int] = None, omitted: Iterable[Union[str, BytesLike]] = (),
 ) -> str:
-    """Returns the text of a module. Raises a subclass of Error if it can't be printed."""
+    """Returns the text of a module. Raises Error or a subclass if it can't be printed."""
     flags = _flags_of(offsets=offsets, skeleton=skeleton, name_unnamed=name_unnamed, fold=fold)
     text, _ = _print_whole(data, flags, _indent_of(indent), _limit_of(limit), _list_of(omitted), 0)
     return str(text, "utf-8")
@@ -396,7 +396,7 @@ def print_lines(
     offsets: bool = False, skeleton: bool = False, name_unnamed: bool = False, fold: bool = False, indent: Union[str, int] = "  ",
     limit: Optional[int] = None, omitted: Iterable[Union[str, BytesLike]] = (),
 ) -> Iterator[Line]:
-    """Prints a module, and returns an iterator over the lines of its text. Raises a subclass of Error if the module can't be printed.
+    """Prints a module, and returns an iterator over the lines of its text. Raises Error or a subclass if the module can't be printed.
 
     The iterator keeps the text and a table of 24 bytes for each line. It makes each Line when it returns it.
     """
@@ -410,7 +410,7 @@ def print_events(
     offsets: bool = False, skeleton: bool = False, name_unnamed: bool = False, fold: bool = False, indent: Union[str, int] = "  ",
     limit: Optional[int] = None, omitted: Iterable[Union[str, BytesLike]] = (),
 ) -> Iterator[Event]:
-    """Prints a module, and returns an iterator over all events of its text. Raises a subclass of Error if the module can't be printed.
+    """Prints a module, and returns an iterator over all events of its text. Raises Error or a subclass if the module can't be printed.
 
     The iterator keeps the text and a table of 24 bytes for each event. It makes each Event when it returns it.
     """
@@ -423,7 +423,7 @@ def print_ansi(
     offsets: bool = False, skeleton: bool = False, name_unnamed: bool = False, fold: bool = False, indent: Union[str, int] = "  ",
     limit: Optional[int] = None, omitted: Iterable[Union[str, BytesLike]] = (),
 ) -> str:
-    """Returns the text of a module with ANSI escape sequences for colors. Raises a subclass of Error if it can't be printed.
+    """Returns the text of a module with ANSI escape sequences for colors. Raises Error or a subclass if it can't be printed.
 
     In folded operators, only places have colors. The limit is that of the text without escape sequences.
     """

@@ -9,7 +9,7 @@ use wasmprinter_proved_sys as sys;
 pub enum Error {
     /// The bytes are not in the binary format.
     Malformed {
-        /// The place of the first unexpected byte, number or entry, or another place that `wasmprinter.h` describes.
+        /// The place of an unexpected byte, number or entry, or another place that `wasmprinter.h` describes.
         place: u64,
     },
     /// The bytes are marked as a component.
@@ -29,7 +29,7 @@ pub enum Error {
         /// The place of the table.
         place: u64,
     },
-    /// Operators are folded, and one is a legacy exception operator.
+    /// Operators are folded, and one is a `try`, `catch`, `catch_all` or `delegate`.
     FoldLegacy {
         /// The place of the operator.
         place: u64,

@@ -1,6 +1,6 @@
 //! Prints WebAssembly modules, from the binary format to the text format.
 //!
-//! The names are those of the crate `wasmprinter`: [`print_bytes`], [`print_file`], [`Config`], [`Print`] and [`Error`]. The printer itself is the
+//! The crate `wasmprinter` has these names too: [`print_bytes`], [`print_file`], [`Config`] and [`Print`]. The printer itself is the
 //! proved library `libwasmprinter`, which the crate `wasmprinter-proved-sys` links. There are no other dependencies.
 //!
 //! ```
@@ -120,7 +120,7 @@ impl Config {
         self.choose(sys::WASMPRINTER_SKELETON, print)
     }
 
-    /// Chooses whether identifiers are synthesized for items without a name.
+    /// Chooses whether identifiers are synthesized for items and labels without a name.
     pub fn name_unnamed(&mut self, name: bool) -> &mut Self {
         self.choose(sys::WASMPRINTER_NAME_UNNAMED, name)
     }
@@ -297,7 +297,7 @@ impl Config {
     ) -> Result<(String, Vec<sys::WasmprinterEvent>)> {
         let (mut text, mut table) = (Vec::new(), Vec::new());
         let (length, count) = self.expected_lengths(wasm.len(), entries);
-        // If one of these allocations fails, the first round only measures. Pages of an allocation that are not written to take no memory.
+        // If one of these allocations fails, the first round measures what it is for. Pages of an allocation that are not written to take no memory.
         let _ = text.try_reserve_exact(length);
         let _ = table.try_reserve_exact(count);
         loop {

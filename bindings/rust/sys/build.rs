@@ -1,6 +1,6 @@
 //! Links the static library. `WASMPRINTER_LIB` names the folder with `libwasmprinter.a`. If it is not set, `pkg-config wasmprinter` names it.
 //!
-//! Without the library this script links nothing, so that `cargo check` and `cargo doc` work. It does not look for the library if `DOCS_RS` is
+//! Without both this script links nothing, so that `cargo check` and `cargo doc` work. It does not look for the library if `DOCS_RS` is
 //! set.
 
 use std::env;

@@ -5,7 +5,7 @@
 //! place is a byte offset from the start of the module.
 //!
 //! The build script links `libwasmprinter.a` from the folder that the environment variable `WASMPRINTER_LIB` names, or that
-//! `pkg-config wasmprinter` names. Without the library `cargo check` and `cargo doc` work, but no program can be linked.
+//! `pkg-config wasmprinter` names. Without both, `cargo check` and `cargo doc` work, but no program can be linked.
 #![no_std]
 #![deny(missing_docs)]
 
@@ -45,13 +45,13 @@ pub const WASMPRINTER_COMPONENT: WasmprinterStatus = 2;
 /// A function has more than 50,000 locals. The detail is the place of its body.
 pub const WASMPRINTER_TOO_MANY_LOCALS: WasmprinterStatus = 3;
 
-/// The module has more than 1,000,000 functions. The detail is their number.
+/// The module defines more than 1,000,000 functions. The detail is their number.
 pub const WASMPRINTER_TOO_MANY_FUNCTIONS: WasmprinterStatus = 4;
 
 /// The initialiser of a table has no operators. The detail is the place of the table.
 pub const WASMPRINTER_EMPTY_TABLE_INIT: WasmprinterStatus = 5;
 
-/// Only with [`WASMPRINTER_FOLD`]: the module has a legacy exception operator. The detail is its place.
+/// Only with [`WASMPRINTER_FOLD`]: the module has a `try`, `catch`, `catch_all` or `delegate`. The detail is its place.
 pub const WASMPRINTER_FOLD_LEGACY: WasmprinterStatus = 6;
 
 /// Only with [`WASMPRINTER_FOLD`]: a branch hint has no position in folded text. The detail is its place.
@@ -146,7 +146,7 @@ extern "C" {
     /// # Safety
     ///
     /// No pointer is null, even if its length is 0. Each pointer is valid for its length: `wasm`, `indent` and `omitted` for reads of
-    /// initialised bytes, the others for writes. What `out`, `table` and `result` point to overlaps nothing else. The library reads neither `out` nor `table`
+    /// initialised bytes, the others for writes, and aligned. What `out`, `table` and `result` point to overlaps nothing else. The library reads neither `out` nor `table`
     /// (only tested).
     pub fn wasmprinter_raw_print(
         wasm: *const u8,
