@@ -140,7 +140,7 @@ def collected_cases(work, folders):
 
 
 def mark_unparsed(cases):
-    """Takes out of scope the texts of modules that do not parse. No text reads as such a module, and both sides of the row are `None`."""
+    """Takes out of scope the texts of modules that do not parse."""
     parsed = {it.data for it in cases if it.label.kind == "module" and it.held == "parses"}
     for case in cases:
         if case.label.kind == "text" and case.data not in parsed:

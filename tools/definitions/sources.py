@@ -102,7 +102,7 @@ def all_items(work, folders):
     for folder in sorted(glob.glob(os.path.join(suites, "*"))):
         name = os.path.basename(folder).split("-")[0]
         found += folder_items(f"suite of {name}", os.path.join(folder, "test"), TEXTS + (".wasm",))
-    # The texts in wazero's folders are those of the standard's test suite. Its modules are these texts, assembled by wabt.
+    # The texts in wazero's folders are those of the standard's test suite. Most of its modules are these texts, assembled by wabt.
     found += folder_items("standard's suite, in wazero", os.path.join(packages, "golang-github-tetratelabs-wazero-dev"), (".wast",))
     found += folder_items("modules in wazero", os.path.join(packages, "golang-github-tetratelabs-wazero-dev"), (".wasm",))
     found += archive_items("objects of wasi-libc (clang)", os.path.join(packages, "wasi-libc", "**", "wasm32-wasi", "*.[ao]"))
