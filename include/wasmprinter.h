@@ -1,7 +1,7 @@
 /* wasmprinter.h: prints WebAssembly modules, from the binary format to the text format. For C99 and C++.
  *
- * Release 0.263.0-r1. Link libwasmprinter.so.1, or libwasmprinter.a (tools/install.sh installs both, and `pkg-config wasmprinter` names the
- * flags). Both need a processor with the instructions of x86-64-v2, and Linux with glibc.
+ * Release 0.263.0-r1. Link libwasmprinter.so.1, for which `pkg-config wasmprinter` names the flags, or libwasmprinter.a (tools/install.sh
+ * installs both). Both need a processor with the instructions of x86-64-v2, and Linux with glibc.
  *
  * Every length is a number of bytes, unless stated otherwise. No object that is passed has more than PTRDIFF_MAX bytes. Every place is a byte
  * offset from the start of the module. Texts are not null-terminated, unless stated otherwise.
@@ -64,7 +64,7 @@ enum {
     WASMPRINTER_OFFSETS = 1,      /* begin each line after the first with its place, or with spaces if it has none */
     WASMPRINTER_SKELETON = 2,     /* leave out bodies, items of element segments, and bytes of data segments and (@custom ..) */
     WASMPRINTER_NAME_UNNAMED = 4, /* synthesize identifiers for items and labels without a name */
-    WASMPRINTER_FOLD = 8,         /* put each operator in parentheses with its operands */
+    WASMPRINTER_FOLD = 8,         /* put operators in parentheses, around operands */
     WASMPRINTER_EVENTS = 16       /* fill the table with all events, not only with the starts of lines */
 };
 
@@ -87,7 +87,7 @@ enum {
     WASMPRINTER_MALFORMED = 1,          /* not in the binary format; detail: a place, see below */
     WASMPRINTER_COMPONENT = 2,          /* a component, not a module */
     WASMPRINTER_TOO_MANY_LOCALS = 3,    /* more than 50,000 locals in a function; detail: the place of its body */
-    WASMPRINTER_TOO_MANY_FUNCTIONS = 4, /* more than 1,000,000 functions without imports; detail: their number */
+    WASMPRINTER_TOO_MANY_FUNCTIONS = 4, /* more than 1,000,000 functions that are not imported; detail: their number */
     WASMPRINTER_EMPTY_TABLE_INIT = 5,   /* a table whose initialiser has no operators; detail: the place of the table */
     WASMPRINTER_FOLD_LEGACY = 6,        /* only with WASMPRINTER_FOLD: a try, catch, catch_all or delegate; detail: its place */
     WASMPRINTER_FOLD_HINT = 7,          /* only with WASMPRINTER_FOLD: a branch hint that has no position in folded text; detail: its place */
@@ -100,8 +100,9 @@ enum {
     WASMPRINTER_INVALID_LIST = 14       /* the list of names is cut off; detail: the byte offset in it of the length of the name that is cut off */
 };
 
-/* The place of WASMPRINTER_MALFORMED is that of an unexpected byte, number or entry (of any of several), or of bytes whose encoded length
- * exceeds the bytes that remain. In these cases it is another place:
+/* The place of WASMPRINTER_MALFORMED is that of an unexpected byte or number (any one of several), or of bytes whose encoded length exceeds
+ * the bytes that remain. In these cases it is another place:
+ * - A number has too many bits or bytes: its last allowed byte.
  * - A byte or number is missing: the end of the body, of the section or of the module.
  * - A float, a vector or a list of lanes is cut off: its first byte.
  * - An opcode after a prefix is undefined: the prefix.
@@ -120,7 +121,8 @@ typedef struct WasmprinterResult {
  *
  * A line ends where the next one starts, or at the end of the text. Its last byte is a line feed. Line feeds of the indent start no line.
  * A style lasts until the next style event, one of the kinds WASMPRINTER_NAME to WASMPRINTER_RESET. WASMPRINTER_RESET does not bring back an
- * earlier style. With WASMPRINTER_FOLD the only style events inside the text of a folded operator are those of the places of its lines. */
+ * earlier style. With WASMPRINTER_FOLD the only style events inside the text of a folded operator are those of the places of its lines. An
+ * offset or item of a segment that is a single operator is not folded. */
 enum {
     WASMPRINTER_LINE = 0,          /* a line without a place starts */
     WASMPRINTER_LINE_AT_PLACE = 1, /* a line with a place starts */
@@ -148,7 +150,7 @@ typedef struct WasmprinterTable {
 
 /* ---- The exported functions. To print, the inline functions after them are easier to call. */
 
-/* Prints a module, as wasmprinter_print_lines does. `flags` are the options, and `table` receives the lines or the events. `limit` is the
+/* Prints a module, as wasmprinter_print_lines does. `flags` are the options, and `table` has room for `table_len` lines or events. `limit` is the
  * greatest length of the text, and SIZE_MAX means no limit. With limit 0 every module that would be printed gives WASMPRINTER_TOO_LONG.
  * `omitted` is the list of names: each is preceded by its length as four bytes, the lowest first. No pointer may be null, even if its length
  * is 0. */
@@ -226,7 +228,7 @@ WASMPRINTER_INLINE size_t wasmprinter_add_name(WasmprinterBuffer list, size_t le
  *
  * With an indent of spaces and tabs the text consists of printable ASCII characters, tabs and line feeds. If also
  * WASMPRINTER_SKELETON is not chosen, no custom section is left out, and every index that the module uses is declared and names an item of the
- * right kind, the text reads back as the module. */
+ * right kind, the text reads back as the module (docs/GUARANTEES.md of the repository says what that means). */
 WASMPRINTER_INLINE WasmprinterStatus wasmprinter_print_lines(WasmprinterBytes wasm, const WasmprinterOptions *options, WasmprinterBuffer out,
                                                         WasmprinterTable lines, WasmprinterResult *result) {
     static const uint8_t default_indent[2] = {' ', ' '};

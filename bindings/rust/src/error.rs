@@ -9,7 +9,7 @@ use wasmprinter_proved_sys as sys;
 pub enum Error {
     /// The bytes are not in the binary format.
     Malformed {
-        /// The place of an unexpected byte, number or entry, or another place that `wasmprinter.h` describes.
+        /// The place of an unexpected byte or number, or another place that `wasmprinter.h` describes.
         place: u64,
     },
     /// The bytes are marked as a component.
