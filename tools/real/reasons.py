@@ -45,7 +45,7 @@ NOTES = (
     ("wasm-tools", r"kind (field|local)", "writes no names of fields of types in an explicit `(rec ..)`, or of imported functions' parameters"),
     ("wasm-tools", r"another order", "writes `producers` after all other custom sections"),
     ("wat2wasm", r"another place", "writes all custom sections after the other sections"),
-    ("wat2wasm", r"kind (label|local|global|type|field|func)", "writes the identifiers themselves as names, ignores `(@name ..)`, and writes no names of labels or fields"),
+    ("wat2wasm", r"kind (label|local|global|type|field|func)", "writes the identifiers themselves as names, ignores `(@name ..)`, and writes no names of labels, fields, structures or arrays"),
     ("wat2wasm", r"section (producers|dylink)", "ignores the annotations of `producers` and `dylink.0`"),
 )
 
