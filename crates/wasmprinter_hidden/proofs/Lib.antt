@@ -1,6 +1,7 @@
 -- Lemmas that the proofs of this crate share, and the laws on the shortest encodings.
 mod BodyParts
 mod Combinators
+mod CustomData
 mod Digits
 mod Entries
 mod Expressions
