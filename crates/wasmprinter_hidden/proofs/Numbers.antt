@@ -1,6 +1,6 @@
 -- Integers in LEB128 (section 5.2 of the standard, "Integers"): the lengths of the shortest encodings.
 use Rattle.std.specs.Prelude.{◌≡◌, ℕ, zero, suc, ℤ, pos, negsuc, ◌+ℤ◌, ◌*ℤ◌, List, [], ◌∷◌, ◌+◌, ◌*◌, ◌-◌, ◌/◌, ◌^◌, ◌<◌, ◌≤◌, ◌⊎◌, length, refl}
-use Rattle.std.proofs.Common.{sym, ap, ◌∙◌, arith, inl, inr, pow_mono}
+use Rattle.std.proofs.Common.{sym, ap, ◌∙◌, arith, inl, inr, pow_mono, pow-suc}
 use Rattle.std.proofs.lemmas.Bool.{lt-ltb, le-ltb, cases_lt}
 use Rattle.std.proofs.lemmas.Int.{ints}
 use Rattle.wasmprinter_spec.specs.Leb.{IsUnsigned, IsSigned}
@@ -61,15 +61,14 @@ digits_grow (suc most) m n le =
 -- A power of the base is at least 1.
 power_some : (k : ℕ) → 1 ≤ 128 ^ k
 power_some zero = omega arith
-power_some (suc k) = let power : 128 ^ suc k ≡ 128 * 128 ^ k = refl in omega (arith, power, power_some k)
+power_some (suc k) = omega (arith, pow-suc 128 k, power_some k)
 
 -- There are no more than `most + 1` digits, and a number from this power of the base on has all of them.
 pub digits_full : (most n : ℕ) → 128 ^ most ≤ n → digits most n ≡ suc most
 digits_full zero n le = refl
 digits_full (suc most) n le =
-    let power : 128 ^ suc most ≡ 128 * 128 ^ most = refl in
-    rw (digits_more most n (omega (arith, power_some most, power, le)))
-    (ap suc (digits_full most (n / 128) (omega (arith, power, le))))
+    rw (digits_more most n (omega (arith, power_some most, pow-suc 128 most, le)))
+    (ap suc (digits_full most (n / 128) (omega (arith, pow-suc 128 most, le))))
 
 -- ---- Unsigned integers
 

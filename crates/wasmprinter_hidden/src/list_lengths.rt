@@ -18,11 +18,11 @@ pub(crate) fn take_list<T: Decode + Shortest>(items: &Items<'_, T>, excess: &mut
 }
 
 /// Takes the bytes of a count and the items of a list that borrow the bytes away.
-pub(crate) fn take_list_in<T: ReadFrom + Shortest>(items: &ItemsIn<T>, excess: &mut Excess)
-    ensures { excess.new.bytes ≡ excess.old.bytes - list_len T.len items.now }
+pub(crate) fn take_list_in<T: ReadFrom + Shortest>(list: &ItemsIn<T>, excess: &mut Excess)
+    ensures { excess.new.bytes ≡ excess.old.bytes - list_len T.len list.now }
 {
-    items.len().take_from(excess);
-    for item in items.iter() {
+    list.len().take_from(excess);
+    for item in list.iter() {
         item.take_from(excess);
     }
 }
