@@ -3,6 +3,7 @@ mod BodyParts
 mod Combinators
 mod CustomData
 mod Digits
+mod EmptyHints
 mod Entries
 mod Expressions
 mod ExternTypes
@@ -11,6 +12,7 @@ mod FunctionCounting
 mod FunctionParts
 mod HintData
 mod HintParts
+mod Kept
 mod Laws
 mod Lists
 mod NameCounting
