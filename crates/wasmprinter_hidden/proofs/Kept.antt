@@ -72,10 +72,11 @@ module _ {A : Type 0} (test : A → Bool) (len : A → ℕ) (all : List A) (star
       omega (arith, no_bytes, was)
 
   -- The bytes of the count are taken away too.
-  pub all_taken : (left : List A) (bytes count new : ℕ) → left ≡ [] → count < 2 ^ 64 → new ≡ bytes - unsigned_len count →
+  pub all_taken : (left : List A) (bytes count new : ℕ) → left ≡ [] → new ≡ bytes - unsigned_len count →
       LeftIs left bytes → CountIs test all left count → new ≡ start - list_len len (filter test all)
-  all_taken left bytes count new none small taken was counted =
+  all_taken left bytes count new none taken was counted =
       let no_item : length (filter test left) ≡ 0 = ap (λ xs. length (filter test xs)) none in
-      let is : count ≡ capped (length (filter test all)) = omega (arith, no_item, small, counted) in
-      let size : unsigned_len count ≡ unsigned_len (length (filter test all)) = ap unsigned_len is ∙ unsigned_len-capped (length (filter test all)) in
+      let is : capped count ≡ capped (length (filter test all)) = omega (arith, no_item, counted) in
+      let size : unsigned_len count ≡ unsigned_len (length (filter test all)) =
+      sym (unsigned_len-capped count) ∙ ap unsigned_len is ∙ unsigned_len-capped (length (filter test all)) in
       omega (arith, size, taken, all_left left bytes none was)

@@ -1,5 +1,5 @@
-//! Findings in the data of custom sections that is compared with its shortest encoding as a whole. `producers` and
-//! `dylink.0` (tool conventions) are two of these sections.
+//! Findings in the data of custom sections, which is compared as a whole with its shortest encoding: `producers` and
+//! `dylink.0` (tool conventions), and branch hints.
 ghost use Rattle.std.specs.Prelude.{◌≡◌, ◌++◌, OnOk};
 ghost use Rattle.wasmprinter_spec.specs.Customs.{custom_treatment_of};
 ghost use Rattle.wasmprinter_custom.specs.Treatments.{treatment_view};

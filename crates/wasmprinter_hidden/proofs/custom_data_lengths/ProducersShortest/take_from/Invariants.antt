@@ -2,7 +2,7 @@
 use Rattle.wasmprinter_hidden.specs.HiddenData.{has_values}
 use Rattle.wasmprinter_hidden.specs.Lengths.{field_len}
 use Rattle.wasmprinter_hidden.proofs.Kept.{LeftIs, CountIs}
-use Rattle.wasmprinter_hidden.proofs.custom_data_lengths.ItemsInShortest.take_from.Given as goal
+use Rattle.wasmprinter_hidden.proofs.custom_data_lengths.ProducersShortest.take_from.Given as goal
 
 abbrev pub invariant-loop-field : goal.invariant-loop-field
 invariant-loop-field l = record {

@@ -3,7 +3,7 @@ use Rattle.std.proofs.Common.{drop}
 use Rattle.wasmprinter_hidden.specs.HiddenHints.{has_hints}
 use Rattle.wasmprinter_hidden.specs.Lengths.{function_hints_len}
 use Rattle.wasmprinter_hidden.proofs.Kept.{LeftIs, CountIs}
-use Rattle.wasmprinter_hidden.proofs.hint_entries.VecShortest.take_from.Given as goal
+use Rattle.wasmprinter_hidden.proofs.hint_entries.VecFunctionEntryShortest.take_from.Given as goal
 
 abbrev pub invariant-loop-entry : goal.invariant-loop-entry
 invariant-loop-entry l = record {
