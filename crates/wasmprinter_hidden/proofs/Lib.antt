@@ -3,7 +3,6 @@ mod BodyParts
 mod Combinators
 mod CustomData
 mod Digits
-mod EmptyHints
 mod Entries
 mod Expressions
 mod ExternTypes

@@ -34,10 +34,7 @@ fn treatment_of<'a>(section: &Custom<'a>) -> CustomTreatment<'a>
 }
 
 /// Appends the finding in the data of a section by its treatment. Bytes that the text repeats have none.
-pub(crate) fn add_treatment(
-    findings: &mut Findings,
-    section: &Custom<'_>,
-) -> Result<(), AllocError>
+pub(crate) fn add_treatment(findings: &mut Findings, section: &Custom<'_>) -> Result<(), AllocError>
     ensures { OnOk result (findings.new ≡ findings.old
         ++ in_treatment section.now.value.bytes (custom_treatment_of section.now.value)) }
 {

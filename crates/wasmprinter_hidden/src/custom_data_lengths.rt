@@ -12,8 +12,8 @@ use crate::findings::shortest_len;
 use crate::list_lengths::{take_bytes, take_list_in};
 use bitflags::Flags;
 use wasmprinter_custom::{
-    Content, Dylink, DylinkNames, ExportInfo, ImportInfo, MemInfo, Producers,
-    ProducersField, Subsection, SymbolFlags, Value,
+    Content, Dylink, DylinkNames, ExportInfo, ImportInfo, MemInfo, Producers, ProducersField,
+    Subsection, SymbolFlags, Value,
 };
 
 impl Shortest for Value<'_> {
@@ -122,7 +122,6 @@ impl Shortest for DylinkNames<'_> {
 
 impl Shortest for Content<'_> {
     ghost use Rattle.wasmprinter_custom.specs.Contents.{content_view};
-ghost use Rattle.wasmprinter_custom.specs.Flags.{bits_of};
     ghost use Rattle.wasmprinter_hidden.specs.Lengths.{dylink_content_len};
 
     ghost len = { λ c. dylink_content_len (content_view c) };

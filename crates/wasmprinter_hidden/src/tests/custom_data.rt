@@ -54,11 +54,7 @@ const FIELDS: &[Row] = &[
     ),
     (
         "a long name before a field without values",
-        &[
-            &[0x00, 0x16],
-            b"\x89\x00producers",
-            b"\x01\x08language\x00",
-        ],
+        &[&[0x00, 0x16], b"\x89\x00producers", b"\x01\x08language\x00"],
         &[(0x0a, Part::CustomName, 1), (0x15, Part::CustomData, 10)],
     ),
 ];
