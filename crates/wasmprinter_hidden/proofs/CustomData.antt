@@ -1,11 +1,10 @@
 -- The lengths of the shortest encodings of the data of custom sections: names, `producers` and `dylink.0` (tool
 -- conventions), and branch hints (Code Metadata).
-use Rattle.std.specs.Prelude.{◌≡◌, ◌==◌, ℕ, List, [], ◌∷◌, ◌++◌, map, ◌+◌, ◌-◌, ◌≤◌, length, Bool, true, false, Option, Some, refl}
+use Rattle.std.specs.Prelude.{◌≡◌, ◌==◌, ℕ, List, [], ◌++◌, map, ◌+◌, ◌-◌, ◌≤◌, length, Bool, true, false, Option, Some, refl}
 use Rattle.std.proofs.Common.{sym, ap, ◌∙◌, arith, leb}
 use Rattle.std.proofs.lemmas.List.{length-append}
 use Rattle.wasmprinter_spec.specs.Grammar.{Grammar, Placed, byte, seq, map_value, value_with_place, choose, some_is}
 use Rattle.wasmprinter_spec.specs.Choices.{tested}
-use Rattle.wasmprinter_spec.specs.FirstByte.{only, after_first_byte}
 use Rattle.wasmprinter_spec.specs.Sized.{take_bytes, alone, exactly}
 use Rattle.wasmprinter_spec.specs.Name.{u32, name, vec}
 use Rattle.wasmprinter_spec.specs.Names.Section.{association}
@@ -15,7 +14,7 @@ use Rattle.wasmprinter_spec.specs.Customs.Hints.{Hint, FunctionHints, flag, hint
 use Rattle.wasmprinter_hidden.specs.Lengths.{unsigned_len, list_len, bytes_len, association_len, field_value_len, field_len, mem_info_len, export_info_len, import_info_len, dylink_content_len, dylink_subsection_len, hint_len, function_hints_len}
 use Rattle.wasmprinter_hidden.specs.Shortest.{fields_without_places, hints_without_places}
 use Rattle.wasmprinter_hidden.proofs.Numbers.{unsigned_at_least, unsigned_up_to, digits_grow}
-use Rattle.wasmprinter_hidden.proofs.Combinators.{Measured, Spelling, Under, same, of_value, are_joined, split_bytes, joined_length, one_length, map_measured, then_measured, vec_measured, list_measured, placed_measured, choose_measured, after_measured, same_measured, with_len, only_measured, byte_map_measured}
+use Rattle.wasmprinter_hidden.proofs.Combinators.{Measured, Spelling, Under, same, are_joined, split_bytes, joined_length, one_length, map_measured, then_measured, vec_measured, list_measured, placed_measured, choose_measured, after_measured, same_measured, with_len, only_measured, byte_map_measured}
 use Rattle.wasmprinter_hidden.proofs.Names.{u32_measured, name_measured}
 
 -- ---- Names in name sections

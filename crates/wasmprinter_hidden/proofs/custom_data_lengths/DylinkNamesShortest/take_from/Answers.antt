@@ -1,4 +1,4 @@
-use Rattle.std.proofs.Common.{◌≡◌, ◌-◌, ℕ, List, true, ap, ◌∙◌}
+use Rattle.std.proofs.Common.{◌-◌, ℕ, List, true, ap, ◌∙◌}
 use Rattle.wasmprinter_hidden.specs.Lengths.{bytes_len, list_len}
 use Rattle.wasmprinter_hidden.proofs.Kept.{all_taken, filter_all}
 use Rattle.wasmprinter_hidden.proofs.custom_data_lengths.DylinkNamesShortest.take_from.Goals as goal
