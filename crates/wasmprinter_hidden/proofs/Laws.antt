@@ -7,6 +7,7 @@ use Rattle.wasmprinter_hidden.proofs.Types.{group_measured}
 use Rattle.wasmprinter_hidden.proofs.ExternTypes.{memory_type_measured, tag_measured, import_measured, export_measured, local_entry_measured}
 use Rattle.wasmprinter_hidden.proofs.Operators.{operator_measured}
 use Rattle.wasmprinter_hidden.proofs.Entries.{table_measured, global_measured, element_measured, data_measured}
+use Rattle.wasmprinter_hidden.proofs.CustomData.{association_measured, fields_measured, subsection_measured, hints_measured}
 
 -- Each grammar has the lengths that the definitions say.
 pub are_shortest : AreShortest
@@ -25,4 +26,8 @@ are_shortest = record {
   globals = is_shortest_but global_measured;
   elements = is_shortest_but element_measured;
   data_segments = is_shortest_but data_measured;
+  associations = is_shortest association_measured;
+  fields = is_shortest_but fields_measured;
+  subsections = is_shortest_but subsection_measured;
+  hints = is_shortest_but hints_measured;
 }

@@ -1,6 +1,7 @@
 -- Lemmas that the proofs of this crate share, and the laws on the shortest encodings.
 mod BodyParts
 mod Combinators
+mod CustomData
 mod Digits
 mod Entries
 mod Expressions
@@ -10,6 +11,7 @@ mod FunctionCounting
 mod FunctionParts
 mod HintData
 mod HintParts
+mod Kept
 mod Laws
 mod Lists
 mod NameCounting

@@ -1,6 +1,6 @@
 -- Integers in LEB128 (section 5.2 of the standard, "Integers"): the lengths of the shortest encodings.
 use Rattle.std.specs.Prelude.{◌≡◌, ℕ, zero, suc, ℤ, pos, negsuc, ◌+ℤ◌, ◌*ℤ◌, List, [], ◌∷◌, ◌+◌, ◌*◌, ◌-◌, ◌/◌, ◌^◌, ◌<◌, ◌≤◌, ◌⊎◌, length, refl}
-use Rattle.std.proofs.Common.{sym, ap, ◌∙◌, arith, inl, inr, pow_mono}
+use Rattle.std.proofs.Common.{sym, ap, ◌∙◌, arith, inl, inr, pow_mono, pow-suc}
 use Rattle.std.proofs.lemmas.Bool.{lt-ltb, le-ltb, cases_lt}
 use Rattle.std.proofs.lemmas.Int.{ints}
 use Rattle.wasmprinter_spec.specs.Leb.{IsUnsigned, IsSigned}
@@ -46,6 +46,30 @@ digits_even (suc most) n =
           rw (digits_more most (2 * n) above, digits_more most (2 * n + 1) (omega (arith, above)), same) refl
     ]
 
+-- A greater number has no fewer digits.
+pub digits_grow : (most m n : ℕ) → m ≤ n → digits most m ≤ digits most n
+digits_grow zero m n le = omega arith
+digits_grow (suc most) m n le =
+    elim (cases_lt m 128) [
+      | inl below ↦ rw (digits_one (suc most) m below) (digits_some (suc most) n)
+      | inr above ↦
+          let many : 128 ≤ n = omega (arith, above, le) in
+          let more : digits most (m / 128) ≤ digits most (n / 128) = digits_grow most (m / 128) (n / 128) (omega (arith, le)) in
+          rw (digits_more most m above, digits_more most n many) (omega (arith, more))
+    ]
+
+-- A power of the base is at least 1.
+power_some : (k : ℕ) → 1 ≤ 128 ^ k
+power_some zero = omega arith
+power_some (suc k) = omega (arith, pow-suc 128 k, power_some k)
+
+-- There are no more than `most + 1` digits, and a number from this power of the base on has all of them.
+pub digits_full : (most n : ℕ) → 128 ^ most ≤ n → digits most n ≡ suc most
+digits_full zero n le = refl
+digits_full (suc most) n le =
+    rw (digits_more most n (omega (arith, power_some most, pow-suc 128 most, le)))
+    (ap suc (digits_full most (n / 128) (omega (arith, pow-suc 128 most, le))))
+
 -- ---- Unsigned integers
 
 -- The low seven bits do not count for the quotient by 128.
@@ -88,6 +112,39 @@ unsigned_one_has (suc most) bits (b ∷ bs) n enough a s =
                 let more : digits (suc most) n ≡ suc (digits most high) =
                 digits_more most n many ∙ ap (λ (h : ℕ). suc (digits most h)) (high_part b n high above a.0 is) in
                 (b ∷ short, (a.0, are), inr (above, room, high, is, shortly), ap suc len ∙ sym more)
+          ]
+    ]
+
+-- Every number up to n has the shortest encoding, as an unsigned integer of N bits, if n has an encoding.
+pub unsigned_up_to : (most bits : ℕ) (bytes : List ℕ) (n m : ℕ) → bits ≤ 7 * (most + 1) → AreBytes bytes → IsUnsigned bits bytes n → m ≤ n →
+    (short : List ℕ) × AreBytes short × IsUnsigned bits short m × (length short ≡ digits most m)
+unsigned_up_to most bits [] n m enough a s le = absurd s
+unsigned_up_to zero bits (b ∷ bs) n m enough a s le =
+    elim s [
+      | inl (below, fits, last, is) ↦
+          (m ∷ [], (omega (arith, below, is, le), tt), inl (omega (arith, below, is, le), omega (arith, fits, is, le), refl, refl), refl)
+      | inr (above, room, high, is, spelled) ↦ absurd (omega (arith, enough, room))
+    ]
+unsigned_up_to (suc most) bits (b ∷ bs) n m enough a s le =
+    elim s [
+      | inl (below, fits, last, is) ↦
+          let less : m < 128 = omega (arith, below, is, le) in
+          (m ∷ [], (omega (arith, less), tt), inl (less, omega (arith, fits, is, le), refl, refl), sym (digits_one (suc most) m less))
+      | inr (above, room, high, is, spelled) ↦
+          elim (cases_lt m 128) [
+            | inl below ↦
+                let seven : 7 ≤ bits = omega (arith, room) in let wide : 2 ^ 7 ≤ 2 ^ bits = pow_mono seven in
+                (m ∷ [], (omega (arith, below), tt), inl (below, omega (arith, below, wide), refl, refl), sym (digits_one (suc most) m below))
+            | inr many ↦
+                let up_to : m / 128 ≤ high = omega (arith, le, high_part b n high above a.0 is) in
+                let (short, are, shortly, len) = unsigned_up_to most (bits - 7) bs high (m / 128) (omega (arith, enough)) a.1 spelled up_to in
+                let low : ℕ = m - 128 * (m / 128) in
+                let parts : m ≡ low + 128 - 128 + 128 * (m / 128) = omega arith in (
+                  (low + 128) ∷ short,
+                  (omega arith, are),
+                  inr (omega arith, room, m / 128, parts, shortly),
+                  ap suc len ∙ sym (digits_more most m many),
+                )
           ]
     ]
 

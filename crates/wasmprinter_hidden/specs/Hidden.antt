@@ -2,10 +2,8 @@
 -- entries, names of nothing, names that are replaced, and hints that no operator takes. Each part is compared by itself. These
 -- are not among it: how locals are grouped, and the data count; of custom sections, the order of names, equal names that are
 -- given twice, how names, fields and symbols are divided into lists, and the places of sections that are not printed as such.
-use Rattle.std.specs.Prelude.{◌≡◌, ℕ, ◌+◌, ◌-◌, List, [], ◌∷◌, ◌++◌, length, map, drop, nat_lt, ◌==◌, Bool, false, if◌then◌else◌, codes, bytes_eq, Option, Some, None}
-use Rattle.wasmprinter_spec.specs.Grammar.{Input, input, Spans, Grammar, Placed, byte, seq, map_value, value_with_place}
-use Rattle.wasmprinter_spec.specs.Sized.{take_bytes}
-use Rattle.wasmprinter_spec.specs.Name.{u32}
+use Rattle.std.specs.Prelude.{◌≡◌, ℕ, ◌+◌, ◌-◌, List, [], ◌∷◌, ◌++◌, length, map, drop, ◌==◌, Bool, false, if◌then◌else◌, codes, bytes_eq, Option, Some, None}
+use Rattle.wasmprinter_spec.specs.Grammar.{Input, input, Spans, Placed}
 use Rattle.wasmprinter_spec.specs.Placed.{PlacedModule, PlacedFunction, Body, Custom, CustomEntry}
 use Rattle.wasmprinter_spec.specs.Binary.{Spells, preamble_bytes}
 use Rattle.wasmprinter_spec.specs.Sections.{kind_of, Kind, CustomSection, TypeSection, ImportSection, FunctionSection, TableSection, MemorySection, TagSection, GlobalSection, ExportSection, StartSection, ElementSection, DataCountSection, CodeSection, DataSection}

@@ -1,6 +1,6 @@
 -- What the text of a module does not show of the data of `producers` and `dylink.0` sections (tool conventions): fields
 -- without values, lists of symbols without symbols, and numbers with more bytes than needed.
-use Rattle.std.specs.Prelude.{ℕ, ◌+◌, List, [], length, Bool, true, false, ◌==◌, not}
+use Rattle.std.specs.Prelude.{ℕ, ◌+◌, List, [], length, Bool, true, ◌==◌, not}
 use Rattle.std.specs.List.{filter}
 use Rattle.wasmprinter_spec.specs.Grammar.{Placed}
 use Rattle.wasmprinter_spec.specs.Customs.{CustomTreatment, ProducersFields, DylinkSubsections}

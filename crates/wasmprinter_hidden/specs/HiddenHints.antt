@@ -1,12 +1,12 @@
 -- What the text of a module does not show of sections with branch hints (Code Metadata, a document that accompanies the
 -- standard): hints that no operator takes, functions without hints, numbers with more bytes than needed, and the data of
 -- sections that are malformed or that a later section replaces.
-use Rattle.std.specs.Prelude.{ℕ, ◌+◌, ◌-◌, List, [], ◌∷◌, ◌++◌, length, map, ◌==◌, if◌then◌else◌, Option, Some, None, is_none, codes, bytes_eq, Bool, not}
+use Rattle.std.specs.Prelude.{ℕ, ◌+◌, ◌-◌, List, [], ◌∷◌, ◌++◌, length, map, ◌==◌, if◌then◌else◌, None, is_none, codes, Bool, not}
 use Rattle.std.specs.List.{filter}
 use Rattle.wasmprinter_spec.specs.Grammar.{Placed, input}
 use Rattle.wasmprinter_spec.specs.Repeated.{some_or}
 use Rattle.wasmprinter_spec.specs.Operator.{Operator}
-use Rattle.wasmprinter_spec.specs.Placed.{PlacedModule, PlacedFunction, Body, CustomEntry}
+use Rattle.wasmprinter_spec.specs.Placed.{PlacedModule, PlacedFunction, CustomEntry}
 use Rattle.wasmprinter_spec.specs.Customs.Hints.{Hint as HintValue, FunctionHints, hint_section, last_named, hints_of_next, entries_after, hints_after}
 use Rattle.wasmprinter_hidden.specs.HiddenNames.{imported}
 use Rattle.wasmprinter_spec.specs.Module.{func_import}

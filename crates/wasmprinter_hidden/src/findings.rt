@@ -43,7 +43,7 @@ impl OpenPart {
 }
 
 /// Returns the number of bytes of the shortest encoding, or `u64::MAX` if that number is greater.
-fn shortest_len<T: Shortest>(item: &T) -> u64
+pub(crate) fn shortest_len<T: Shortest>(item: &T) -> u64
     ensures { result ≡ capped (T.len item.now) }
 {
     let mut excess = Excess { bytes: u64::MAX };

@@ -5,7 +5,11 @@
 ghost use Rattle.std.specs.Prelude.{◌≡◌, ◌==◌, IfOk, option_map};
 ghost use Rattle.wasmprinter_spec.specs.Grammar.{value_with_place};
 ghost use Rattle.wasmprinter_spec.specs.Customs.Hints.{hint as hint_grammar, function_hints, hint_section, hints_after};
+ghost use Rattle.wasmprinter_hidden.specs.Lengths.{hint_len};
+ghost use Rattle.wasmprinter_hidden.specs.HiddenHints.{has_hints};
 
+use crate::excess::{Excess, Shortest, unsigned_len};
+use crate::list_lengths::take_list;
 use std::alloc::{AllocError, Global};
 use std::marker::Model;
 use wasmprinter_bytes::cursor::Cursor;
@@ -20,11 +24,14 @@ const MOST_FUNCTIONS: u32 = 1_000_000;
 /// Data with more hints of one function has an error.
 const MOST_HINTS: u32 = 131_071;
 
+/// The number of bytes of a hint after its offset: the size of its flag, and the flag.
+const BYTES_AFTER_OFFSET: u64 = 2;
+
 /// A branch hint, with the place of its first byte.
 #[derive(Drop)]
 pub(crate) struct HintEntry {
     /// The offset of the operator from the first byte of the body.
-    pub(crate) offset: u32,
+    offset: u32,
     hint: Hint,
 }
 
@@ -53,6 +60,23 @@ impl HintEntry {
         ensures { result ≡ self.now.place }
     {
         self.hint.place()
+    }
+
+    /// Returns the number of bytes of the hint's shortest encoding.
+    pub(crate) fn len(&self) -> u64
+        ensures { result ≡ hint_len self.now.value }
+    {
+        unsigned_len(u64::from(self.offset)) + BYTES_AFTER_OFFSET
+    }
+}
+
+impl Shortest for HintEntry {
+    ghost use Rattle.wasmprinter_hidden.specs.Lengths.{hint_len};
+
+    ghost len = { λ h. hint_len h.value };
+
+    fn take_from(&self, excess: &mut Excess) {
+        excess.take(self.len());
     }
 }
 
@@ -95,6 +119,44 @@ impl<'a> FunctionEntry<'a> {
         ensures { result ≡ (self.now.function == number) }
     {
         u64::from(self.function) == number
+    }
+
+    /// Reports whether the function has hints.
+    pub(crate) fn has_hints(&self) -> bool
+        ensures { result ≡ has_hints self.now }
+    {
+        self.hints.len() != 0
+    }
+}
+
+impl Shortest for FunctionEntry<'_> {
+    ghost use Rattle.wasmprinter_hidden.specs.Lengths.{function_hints_len};
+
+    ghost len = { function_hints_len };
+
+    fn take_from(&self, excess: &mut Excess) {
+        self.function.take_from(excess);
+        take_list(&self.hints, excess);
+    }
+}
+
+// No text shows functions without hints. The shortest encoding does not have them.
+impl Shortest for Vec<FunctionEntry<'_>> {
+    ghost use Rattle.std.specs.List.{filter};
+    ghost use Rattle.wasmprinter_hidden.specs.Lengths.{list_len, function_hints_len};
+    ghost use Rattle.wasmprinter_hidden.specs.HiddenHints.{has_hints};
+
+    ghost len = { λ entries. list_len function_hints_len (filter has_hints entries.items) };
+
+    fn take_from(&self, excess: &mut Excess) {
+        let mut count: u64 = 0;
+        for entry in self {
+            if entry.has_hints() {
+                count = count.saturating_add(1);
+                entry.take_from(excess);
+            }
+        }
+        count.take_from(excess);
     }
 }
 

@@ -1,11 +1,12 @@
 //! Findings in sections with branch hints (Code Metadata, a document that accompanies the standard).
-ghost use Rattle.std.specs.Prelude.{◌≡◌, ◌++◌, None, OnOk, codes, is_none, map};
+ghost use Rattle.std.specs.Prelude.{◌≡◌, ◌++◌, None, IfOk, OnOk, codes, is_none, map};
 ghost use Rattle.wasmprinter_spec.specs.Module.{func_import};
 ghost use Rattle.wasmprinter_spec.specs.Customs.Hints.{last_named};
 ghost use Rattle.wasmprinter_hidden.specs.HiddenNames.{imported};
-ghost use Rattle.wasmprinter_hidden.specs.HiddenHints.{left_in_body, hints_in, left_hints, in_hint, whole_data, in_last_hints, in_hints};
+ghost use Rattle.wasmprinter_hidden.specs.HiddenData.{is_empty};
+ghost use Rattle.wasmprinter_hidden.specs.HiddenHints.{left_in_body, hints_in, left_hints, in_hint, gives_no_hints, whole_data, in_last_hints, in_hints};
 
-use crate::excess::unsigned_len;
+use crate::custom_data_findings::add_longer_data;
 use crate::finding::Part;
 use crate::findings::Findings;
 use crate::hint_entries::{FunctionEntry, HintEntries, read_entries, take_at};
@@ -13,16 +14,12 @@ use std::alloc::{AllocError, Global};
 use wasmprinter_custom::is_hint_section;
 use wasmprinter_decoder::{Body, Custom, CustomEntry, ExternKind, Fields, Module};
 
-/// The number of bytes of a hint after its offset: the size of its flag, and the flag.
-const BYTES_AFTER_OFFSET: u64 = 2;
-
 /// Appends a finding for each of the hints.
 fn add_hints(findings: &mut Findings, hints: &HintEntries<'_>) -> Result<(), AllocError>
     ensures { OnOk result (findings.new ≡ findings.old ++ map in_hint hints.now) }
 {
     for hint in hints.iter() {
-        let extra = unsigned_len(u64::from(hint.offset)) + BYTES_AFTER_OFFSET;
-        findings.push(hint.place(), Part::Hint, extra)?;
+        findings.push(hint.place(), Part::Hint, hint.len())?;
     }
     Ok(())
 }
@@ -92,8 +89,34 @@ fn add_last_hints(
     ensures { OnOk result (findings.new ≡ findings.old ++ in_last_hints «module».now section.now.value.bytes) }
 {
     match read_entries(alloc, section.cursor())? {
-        Some(entries) => add_left_hints(findings, module, &entries),
+        Some(entries) => {
+            add_longer_data(findings, section, &entries)?;
+            add_left_hints(findings, module, &entries)
+        }
         None => add_whole_data(findings, section),
+    }
+}
+
+/// Reports whether none of the functions has hints.
+fn are_empty(entries: &[FunctionEntry<'_>]) -> bool
+    ensures { result ≡ is_empty (hints_in entries.now) }
+{
+    for entry in entries {
+        if entry.has_hints() {
+            return false;
+        }
+    }
+    true
+}
+
+/// Reports whether the data of a section with branch hints gives no hints: it has no bytes, or its functions have no
+/// hints.
+pub(crate) fn gives_no_hints(alloc: Global, section: &Custom<'_>) -> Result<bool, AllocError>
+    ensures { IfOk result (λ none. none ≡ gives_no_hints section.now.value.bytes) }
+{
+    match read_entries(alloc, section.cursor())? {
+        Some(entries) => Ok(are_empty(&entries)),
+        None => Ok(section.bytes().is_empty()),
     }
 }
 

@@ -2,6 +2,8 @@
 #![tactic(auto)]
 
 mod body_findings;
+mod custom_data_findings;
+mod custom_data_lengths;
 mod custom_findings;
 mod entry_lengths;
 mod entry_places;

@@ -5,6 +5,7 @@ ghost use Rattle.wasmprinter_hidden.specs.Lengths.{list_len, bytes_len};
 use crate::excess::{Excess, Shortest, unsigned_len};
 use wasmprinter_bytes::decode_traits::Decode;
 use wasmprinter_bytes::lazy_items::Items;
+use wasmprinter_custom::{ItemsIn, ReadFrom};
 
 /// Takes the bytes of a count and the items away.
 pub(crate) fn take_list<T: Decode + Shortest>(items: &Items<'_, T>, excess: &mut Excess)
@@ -12,6 +13,16 @@ pub(crate) fn take_list<T: Decode + Shortest>(items: &Items<'_, T>, excess: &mut
 {
     items.len().take_from(excess);
     for item in items.iter() {
+        item.take_from(excess);
+    }
+}
+
+/// Takes the bytes of a count and the items of a list that borrow the bytes away.
+pub(crate) fn take_list_in<T: ReadFrom + Shortest>(list: &ItemsIn<T>, excess: &mut Excess)
+    ensures { excess.new.bytes ≡ excess.old.bytes - list_len T.len list.now }
+{
+    list.len().take_from(excess);
+    for item in list.iter() {
         item.take_from(excess);
     }
 }

@@ -3,6 +3,7 @@
 
 mod bodies;
 mod branch_hints;
+mod custom_data;
 mod entries;
 mod instructions;
 mod names;

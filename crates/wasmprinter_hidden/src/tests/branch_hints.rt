@@ -86,7 +86,7 @@ const HINTS: &[Row] = &[
         &[(0x2b, Part::Hint, 3), (0x30, Part::Hint, 3)],
     ),
     (
-        "long numbers, which are not looked for",
+        "a long function index and a long offset",
         &[
             FUNCTION,
             &[0x00, 0x22],
@@ -94,7 +94,18 @@ const HINTS: &[Row] = &[
             &[0x01, 0x80, 0x00, 0x01, 0x83, 0x00, 0x01, 0x01],
             CODE,
         ],
-        &[],
+        &[(0x28, Part::CustomData, 2)],
+    ),
+    (
+        "long counts",
+        &[
+            FUNCTION,
+            &[0x00, 0x22],
+            NAME,
+            &[0x81, 0x00, 0x00, 0x81, 0x00, 0x03, 0x01, 0x01],
+            CODE,
+        ],
+        &[(0x28, Part::CustomData, 2)],
     ),
     (
         "a hint with a long offset",
@@ -105,7 +116,7 @@ const HINTS: &[Row] = &[
             &[0x01, 0x00, 0x01, 0x82, 0x00, 0x01, 0x01],
             CODE,
         ],
-        &[(0x2b, Part::Hint, 3)],
+        &[(0x28, Part::CustomData, 1), (0x2b, Part::Hint, 3)],
     ),
 ];
 
@@ -166,13 +177,73 @@ const FUNCTIONS: &[Row] = &[
     ),
 ];
 
+/// Functions without hints.
+const WITHOUT_HINTS: &[Row] = &[
+    (
+        "a function without hints after one with hints",
+        &[
+            FUNCTION,
+            &[0x00, 0x22],
+            NAME,
+            &[0x02, 0x00, 0x01, 0x03, 0x01, 0x01, 0x01, 0x00],
+            CODE,
+        ],
+        &[(0x28, Part::CustomData, 2)],
+    ),
+    (
+        "a function without hints, which hides those of function 0",
+        &[
+            FUNCTION,
+            &[0x00, 0x22],
+            NAME,
+            &[0x02, 0x01, 0x00, 0x00, 0x01, 0x03, 0x01, 0x01],
+            CODE,
+        ],
+        &[(0x28, Part::CustomData, 2), (0x2d, Part::Hint, 3)],
+    ),
+    (
+        "a function without hints alone",
+        &[FUNCTION, &[0x00, 0x1d], NAME, &[0x01, 0x00, 0x00], CODE],
+        &[(0x0e, Part::EmptyCustom, 29)],
+    ),
+];
+
 /// Sections that give no hints.
 const SECTIONS: &[Row] = &[
-    ("no data", &[FUNCTION, &[0x00, 0x1a], NAME, CODE], &[]),
     (
-        "no functions with hints",
+        "no data",
+        &[FUNCTION, &[0x00, 0x1a], NAME, CODE],
+        &[(0x0e, Part::EmptyCustom, 26)],
+    ),
+    (
+        "no data after a long name",
+        &[
+            FUNCTION,
+            &[0x00, 0x1b],
+            b"\x99\x00metadata.code.branch_hint",
+            CODE,
+        ],
+        &[(0x0e, Part::EmptyCustom, 27)],
+    ),
+    (
+        "no functions",
         &[FUNCTION, &[0x00, 0x1b], NAME, &[0x00], CODE],
-        &[],
+        &[(0x0e, Part::EmptyCustom, 27)],
+    ),
+    (
+        "no functions in a section before one that counts",
+        &[
+            FUNCTION,
+            &[0x00, 0x1b],
+            NAME,
+            &[0x00],
+            // 0x29
+            &[0x00, 0x20],
+            NAME,
+            &[0x01, 0x00, 0x01, 0x03, 0x01, 0x01],
+            CODE,
+        ],
+        &[(0x0e, Part::EmptyCustom, 27)],
     ),
     (
         "an unknown flag",
@@ -212,21 +283,26 @@ const SECTIONS: &[Row] = &[
         &[(0x28, Part::HintSection, 6), (0x4d, Part::Hint, 3)],
     ),
     (
-        "three sections, of which the last one is empty",
+        "three sections, of which the last two give no hints",
         &[
             FUNCTION,
             &[0x00, 0x20],
             NAME,
             &[0x01, 0x00, 0x01, 0x03, 0x01, 0x01],
-            // 0x2e: its data starts at 0x4a
+            // 0x2e: its name starts at 0x30
             &[0x00, 0x1b],
             NAME,
             &[0x00],
+            // 0x4b: its name starts at 0x4d
             &[0x00, 0x1a],
             NAME,
             CODE,
         ],
-        &[(0x28, Part::HintSection, 6), (0x4a, Part::HintSection, 1)],
+        &[
+            (0x28, Part::HintSection, 6),
+            (0x30, Part::EmptyCustom, 27),
+            (0x4d, Part::EmptyCustom, 26),
+        ],
     ),
     (
         "a long name before the data, and another custom section after it",
@@ -249,6 +325,8 @@ fn finds_hints_of_no_operator(rt: HostRuntime) -> Result<(), Fail> {
     let other = first_other_row(rt.alloc(), HINTS)?;
     assert!(rt; other == None, "{other:?}");
     let other = first_other_row(rt.alloc(), FUNCTIONS)?;
+    assert!(rt; other == None, "{other:?}");
+    let other = first_other_row(rt.alloc(), WITHOUT_HINTS)?;
     assert!(rt; other == None, "{other:?}");
     Ok(())
 }
