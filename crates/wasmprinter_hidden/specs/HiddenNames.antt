@@ -178,7 +178,7 @@ abbrev pub module_name : PlacedModule → Input → Reading
 module_name m at =
     some_or (name.parse at) (stop at)
     (λ x. reading (in_given (is_replaced m module_subsection 0 0 x.0) at.place (bytes_len x.0) x.1.place)
-        (entry_of module_subsection 0 (0, x.0) ∷ []) x.1 false)
+    (entry_of module_subsection 0 (0, x.0) ∷ []) x.1 false)
 
 -- The content of a subsection with a known id.
 abbrev pub content : PlacedModule → ℕ → Input → Reading
