@@ -1,8 +1,7 @@
 -- Reading the data of a name section, item by item.
-use Rattle.std.proofs.Common.{◌≡◌, ℕ, zero, suc, ◌+◌, ◌-◌, ◌<◌, ◌≤◌, Bool, true, false, cond, List, [], ◌∷◌, ◌++◌, Option, Some, None, refl, sym, ap, subst, ◌∙◌, arith, append_assoc, append-nil}
+use Rattle.std.proofs.Common.{◌≡◌, ℕ, suc, ◌+◌, ◌-◌, ◌<◌, Bool, true, false, cond, List, [], ◌++◌, Option, Some, sym, ap, subst, ◌∙◌, arith, append_assoc, append-nil}
 use Rattle.wasmprinter_spec.specs.Grammar.{Input}
 use Rattle.wasmprinter_spec.specs.Repeated.{some_or}
-use Rattle.wasmprinter_spec.specs.Names.Section.{Entry}
 use Rattle.wasmprinter_hidden.specs.Lengths.{unsigned_len}
 use Rattle.wasmprinter_hidden.specs.Findings.{if_longer}
 use Rattle.wasmprinter_hidden.specs.HiddenNames.{Reading, reading, stop, passed, and_then, read_number, repeat}

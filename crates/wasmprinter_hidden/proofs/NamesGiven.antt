@@ -1,7 +1,7 @@
 -- The names that are read in the data of a name section are the entries that the data gives.
-use Rattle.std.proofs.Common.{◌≡◌, ℕ, zero, suc, ◌+◌, ◌-◌, Bool, true, false, cond, not, ◌&&◌, ◌||◌, eqb, ltb, length, List, [], ◌∷◌, ◌++◌, Option, Some, None, refl, sym, ap, ◌∙◌, inl, inr}
-use Rattle.std.proofs.lemmas.Bool.{eqb-true, or_cases, and_parts, not-true, cond-false}
-use Rattle.wasmprinter_spec.specs.Grammar.{Input, input, Grammar, Placed, ◌>>=◌, bind_some, some_is, byte, map_value, seq, value_with_place}
+use Rattle.std.proofs.Common.{◌≡◌, ℕ, zero, suc, ◌+◌, ◌-◌, Bool, true, false, cond, not, ◌&&◌, ◌||◌, eqb, ltb, length, List, [], ◌∷◌, Option, Some, None, refl, sym, ap, ◌∙◌}
+use Rattle.std.proofs.lemmas.Bool.{eqb-true}
+use Rattle.wasmprinter_spec.specs.Grammar.{Input, input, Grammar, Placed, ◌>>=◌, bind_some, byte, map_value, seq, value_with_place}
 use Rattle.wasmprinter_spec.specs.Choices.{tested}
 use Rattle.wasmprinter_spec.specs.Repeated.{some_or}
 use Rattle.wasmprinter_spec.specs.Sized.{take_bytes}
@@ -12,8 +12,8 @@ use Rattle.wasmprinter_spec.specs.Placed.{PlacedModule}
 use Rattle.wasmprinter_spec.specs.Names.Section as section
 use Rattle.wasmprinter_spec.specs.Names.Section.{Entry, entry, entry_of, association, entries_by_id, indirect_map, is_indirect, module_subsection, tag_subsection}
 use Rattle.wasmprinter_hidden.specs.Lengths.{unsigned_len, bytes_len}
-use Rattle.wasmprinter_hidden.specs.Findings.{finding, if_longer, any_section}
-use Rattle.wasmprinter_hidden.specs.HiddenNames.{Reading, reading, stop, passed, and_then, read_number, repeat, read_list, in_given, in_name, is_replaced, item_name, name_map, after_no_names, owned_names, inner_map, inner_count, item_count, module_name, content, unread, at_end_of, known_subsection, is_empty_list, gives_no_names, subsection, next_subsection, NamesAreThoseGiven}
+use Rattle.wasmprinter_hidden.specs.Findings.{finding, if_longer}
+use Rattle.wasmprinter_hidden.specs.HiddenNames.{Reading, reading, stop, passed, and_then, read_number, repeat, read_list, in_given, in_name, is_replaced, item_name, name_map, after_no_names, owned_names, inner_map, inner_count, item_count, module_name, content, at_end_of, known_subsection, is_empty_list, gives_no_names, subsection, next_subsection, NamesAreThoseGiven}
 use Rattle.wasmprinter_hidden.specs.declared.finding.Part.{Part}
 use Rattle.wasmprinter_hidden.specs.declared.finding.Part.TheVariants.{NameSubsection, NameCount, NameOwner, OwnerWithoutNames}
 use Rattle.wasmprinter_hidden.specs.declared.finding.Finding.{Finding}

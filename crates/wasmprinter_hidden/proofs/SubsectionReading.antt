@@ -1,24 +1,17 @@
 -- Reading the subsections of a name section.
-use Rattle.std.proofs.Common.{◌≡◌, ℕ, zero, suc, ◌+◌, ◌-◌, ◌<◌, ◌≤◌, Bool, true, false, cond, eqb, ltb, length, List, [], ◌∷◌, ◌++◌, Option, Some, None, refl, sym, ap, subst, ◌∙◌, arith, inl, inr, append_assoc, append-nil}
-use Rattle.std.proofs.lemmas.Bool.{cases_lt, lt-ltb, le-ltb, eq-eqb, ne_eqb, cond-true, cond-false}
+use Rattle.std.proofs.Common.{◌≡◌, ℕ, zero, suc, ◌+◌, ◌<◌, ◌≤◌, Bool, true, false, cond, eqb, length, List, [], ◌++◌, refl, sym, ap, subst, ◌∙◌, arith, append_assoc, append-nil}
+use Rattle.std.proofs.lemmas.Bool.{eq-eqb, ne_eqb}
 use Rattle.std.proofs.lemmas.List.{nil_from_length}
-use Rattle.wasmprinter_spec.specs.Grammar.{Input, input, Placed}
-use Rattle.wasmprinter_spec.specs.Repeated.{some_or}
+use Rattle.wasmprinter_spec.specs.Grammar.{Input, input}
 use Rattle.wasmprinter_spec.specs.Placed.{PlacedModule}
 use Rattle.wasmprinter_spec.specs.Names.Section.{module_subsection, is_indirect}
 use Rattle.wasmprinter_custom.specs.Spaces.{id_of, outer_of}
 use Rattle.wasmprinter_custom.specs.declared.index_space.Space.{Space}
-use Rattle.wasmprinter_custom.specs.declared.index_space.Space.TheVariants.{Func, Local, Label, Types, Table, Memory, Global, Elem, Data, Field, Tag}
-use Rattle.wasmprinter_hidden.specs.Lengths.{unsigned_len}
-use Rattle.wasmprinter_hidden.specs.Findings.{finding, if_longer, any_section}
-use Rattle.wasmprinter_hidden.specs.HiddenNames.{Reading, reading, stop, passed, and_then, repeat, read_list, name_map, item_count, after_no_names, owned_names, inner_map, module_name, content, unread, at_end_of, known_subsection, gives_no_names, subsection, next_subsection, after_stop, in_names}
-use Rattle.wasmprinter_hidden.specs.NamedItems.{inner_id}
-use Rattle.wasmprinter_hidden.specs.NameReadings.{IsRead, unread_up_to}
-use Rattle.wasmprinter_hidden.specs.declared.name_subsections.InnerSpace.{InnerSpace}
-use Rattle.wasmprinter_hidden.specs.declared.name_subsections.InnerSpace.TheVariants.{Local as InLocal, Label as InLabel, Field as InField}
-use Rattle.wasmprinter_hidden.specs.declared.finding.Part.TheVariants.{NameSubsection, NameSubsectionSize, OwnerWithoutNames, UnreadNames, MissingNames}
+use Rattle.wasmprinter_custom.specs.declared.index_space.Space.TheVariants.{Func}
+use Rattle.wasmprinter_hidden.specs.HiddenNames.{Reading, reading, stop, passed, and_then, repeat, read_list, name_map, item_count, inner_map, module_name, content, subsection, next_subsection, after_stop, in_names}
+use Rattle.wasmprinter_hidden.specs.NameReadings.{IsRead}
 use Rattle.wasmprinter_hidden.specs.declared.finding.Finding.{Finding}
-use Rattle.wasmprinter_hidden.proofs.NameReading.{after_findings, Completes, times_more, times_stopped, times_done}
+use Rattle.wasmprinter_hidden.proofs.NameReading.{Completes, times_more, times_stopped, times_done}
 
 -- ---- The content of a subsection
 

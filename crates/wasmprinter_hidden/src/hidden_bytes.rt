@@ -135,9 +135,8 @@ fn findings_in_sections(
 
 /// Returns what the text of a module does not show. On `Ok`, the bytes encode a module, and the result lists each part of
 /// it that has more bytes than its shortest encoding ([`lengths_are_shortest`](crate::shortest::lengths_are_shortest)),
-/// each section without entries, and names and branch hints that the text does not have (`found`). Which names the text
-/// has is the subject of [`names_are_those_given`]. Parts of one section follow each other in the order of their places, as
-/// the sections do.
+/// each section without entries, and names and branch hints that the text does not have (`found`, [`names_are_those_given`]).
+/// Parts of one section follow each other in the order of their places, as the sections do.
 ///
 /// # Errors
 ///
@@ -165,9 +164,8 @@ pub fn findings_are_unique()
     ensures exists { ModulesHaveFindings }
 {}
 
-/// States that the names that are read to list the findings in a name section are the entries that the section gives. So a
-/// finding about a name is one about an entry, in which the identifiers of the text have their origin. Has no code: this is
-/// a law over definitions.
+/// States that the findings in a name section are about the names from which the text takes its identifiers: both definitions
+/// read the same entries. Has no code: this is a law over definitions.
 pub fn names_are_those_given()
     ensures { NamesAreThoseGiven }
 {}

@@ -1,4 +1,5 @@
-//! What the text of a module does not show: where its bytes have a shorter encoding, and names and hints of nothing.
+//! What the text of a module does not show: where its bytes have a shorter encoding, and names and hints that it does not
+//! have.
 #![tactic(auto)]
 
 mod body_findings;

@@ -45,11 +45,11 @@ fn read_number(
     Ok(Some(number))
 }
 
-/// Items of an index space: all of the module, or those of one function or type.
+/// The items of an index space of the module, or of one function or type.
 #[derive(Clone, Copy)]
 struct SpaceItems {
     space: Space,
-    /// The function or type. It is ignored if the items are those of the module.
+    /// The function or type. It is ignored if the space is one of the module.
     outer: u32,
     /// The number of items.
     count: u64,
@@ -138,7 +138,7 @@ fn read_name_map(
     Ok(false)
 }
 
-/// Returns a cursor after a function or type without names, if the cursor is at one.
+/// Returns a cursor after the next function or type if that has no names. Returns `None` if it has names or is malformed.
 fn after_no_names<'a>(cursor: &Cursor<'a>) -> Option<Cursor<'a>>
     ensures { MatchOption result (after_no_names cursor.now ≡ None) (λ after. after_no_names cursor.now ≡ Some after) }
 {
@@ -172,8 +172,8 @@ fn read_owned_names(
     read_name_map(findings, named, items, cursor)
 }
 
-/// Reads a function or type and the names of its items, and appends the findings in them. A function or type without names
-/// is a finding as a whole.
+/// Reads a function or type with the names of its items, and appends the findings in them. If it has no names, it is a
+/// finding as a whole.
 fn read_inner_map<'a>(
     findings: &mut Findings,
     named: &NamedItems<'_, '_>,
@@ -339,7 +339,7 @@ fn add_subsection_size(
     findings.close(size, subsection.content.place())
 }
 
-/// Reads a subsection, and appends the findings in it. One that gives no names is a finding as a whole.
+/// Reads a subsection, and appends the findings in it. A subsection that gives no names is a finding as a whole.
 fn read_subsection(
     findings: &mut Findings,
     named: &NamedItems<'_, '_>,
@@ -363,7 +363,7 @@ fn read_subsection(
     read_to_end(findings, named, kind, subsection.content, cursor)
 }
 
-/// Appends the finding about the bytes or names after the place where reading stopped, up to `end`.
+/// Appends the finding at the place where reading stopped: bytes up to `end` that are not read, or missing names.
 fn add_stop(findings: &mut Findings, place: u64, end: u64) -> Result<(), AllocError>
     ensures { OnOk result (findings.new ≡ findings.old ++ after_stop (stop (input place [])) end) }
 {

@@ -84,7 +84,7 @@ pub(crate) fn kind_of_subsection(id: u8) -> Option<NamedKind>
     }
 }
 
-/// Returns the index space of a function or type that the space is, or `None` if its items are those of the module.
+/// Returns the space as one of a function or type, or `None` if it is a space of the module.
 pub(crate) fn inner_space(space: Space) -> Option<InnerSpace>
     ensures { MatchOption result (is_indirect (id_of space) ≡ false) (λ inner. inner_id inner ≡ id_of space) }
 {
@@ -100,7 +100,7 @@ impl InnerSpace {
     ghost use Rattle.std.specs.Prelude.{ℕ};
     ghost use Rattle.wasmprinter_custom.specs.Spaces.{outer_of};
 
-    /// Returns the space among all index spaces.
+    /// Returns the space as one of all index spaces.
     pub(crate) fn space(self) -> Space
         ensures id { id_of result ≡ inner_id self }
         ensures outer { (outer : ℕ) → outer_of result outer ≡ outer }

@@ -33,7 +33,7 @@ impl<'m, 'a> Model for NamedItems<'m, 'a> {
     ghost invariant = { λ n. HaveNames n.counts n.names };
 }
 
-/// Reports whether the name of an item is another one than this. `None` is no name.
+/// Reports whether there is a name that counts, and it differs from the other name.
 fn is_other(counted: Option<Name<'_>>, name: &str) -> bool
     ensures { result ≡ is_other (option_map name_view counted.entry) name.now }
 {
@@ -68,8 +68,8 @@ impl<'m, 'a> NamedItems<'m, 'a> {
         &self.counts
     }
 
-    /// Reports whether an item has another name than this one. `outer` is the function or type of the item; it is ignored
-    /// if the space is one of the module.
+    /// Reports whether the name that counts for an item differs from this name. `outer` is the function or type of the
+    /// item; it is ignored if the space is one of the module.
     pub(crate) fn is_replaced(&self, space: Space, outer: u32, index: u32, name: &str) -> bool
         ensures { result ≡ is_replaced self.now (id_of space) (outer_of space outer) index name.now }
     {
@@ -77,7 +77,7 @@ impl<'m, 'a> NamedItems<'m, 'a> {
         is_other(counted, name)
     }
 
-    /// Reports whether the module has another name than this one.
+    /// Reports whether the name that counts for the module differs from this name.
     pub(crate) fn is_module_replaced(&self, name: &str) -> bool
         ensures { result ≡ is_replaced self.now module_subsection 0 0 name.now }
     {
