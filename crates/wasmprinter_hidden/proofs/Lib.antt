@@ -17,6 +17,7 @@ mod Lists
 mod NameCounting
 mod NameReading
 mod Names
+mod NamesGiven
 mod Numbers
 mod OpenParts
 mod Operands
@@ -24,5 +25,6 @@ mod Operators
 mod SectionParts
 mod SectionsLeft
 mod SubTypes
+mod SubsectionReading
 mod Types
 mod ValTypes

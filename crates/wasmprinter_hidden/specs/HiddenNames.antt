@@ -1,7 +1,7 @@
 -- What the text of a module does not show of a name section (appendix "Name Section" of the standard, and the extended name
 -- section proposal): names of nothing, names that are replaced, subsections with an unknown id or without names, functions and
 -- types without names, bytes that are not read, missing names, and numbers with more bytes than needed.
-use Rattle.std.specs.Prelude.{◌≡◌, ℕ, zero, suc, ◌+◌, ◌-◌, List, [], ◌∷◌, ◌++◌, length, map, Bool, true, false, not, ◌&&◌, ◌||◌, ◌==◌, nat_lt, bytes_eq, if◌then◌else◌, Option, Some, None, slice_get, unwrap_or, option_map}
+use Rattle.std.specs.Prelude.{◌≡◌, ℕ, zero, suc, ◌+◌, ◌-◌, List, [], ◌∷◌, ◌++◌, length, map, Bool, true, false, not, ◌&&◌, ◌||◌, ◌==◌, nat_lt, bytes_eq, if◌then◌else◌, Option, Some, None, slice_get}
 use Rattle.std.specs.List.{filter}
 use Rattle.wasmprinter_spec.specs.Grammar.{Input, input, Placed, ◌>>=◌}
 use Rattle.wasmprinter_spec.specs.Repeated.{some_or}
@@ -9,12 +9,12 @@ use Rattle.wasmprinter_spec.specs.Name.{u32, name}
 use Rattle.wasmprinter_spec.specs.Types.{ExternType, FuncType, all_types, signature_at, fields_at}
 use Rattle.wasmprinter_spec.specs.Row.{Role, Opens, OpensIf, OpensTry}
 use Rattle.wasmprinter_spec.specs.Instructions.{roles}
-use Rattle.wasmprinter_spec.specs.Placed.{PlacedModule, PlacedFunction, LocalEntry}
+use Rattle.wasmprinter_spec.specs.Placed.{PlacedModule}
 use Rattle.wasmprinter_spec.specs.Module.{groups_of, without_places, imported_types, func_import, table_import, memory_import, global_import, tag_import}
 use Rattle.wasmprinter_spec.specs.HintsOfModule.{body_at}
 use Rattle.wasmprinter_spec.specs.ModuleNames.{name_entries, entries_given}
 use Rattle.wasmprinter_spec.specs.Names.Content.{name_of}
-use Rattle.wasmprinter_spec.specs.Names.Section.{Entry, entry_of, association, is_indirect, module_subsection, function_subsection, local_subsection, label_subsection, type_subsection, table_subsection, memory_subsection, global_subsection, elem_subsection, data_subsection, field_subsection, tag_subsection}
+use Rattle.wasmprinter_spec.specs.Names.Section.{Entry, entry_of, association, is_indirect, module_subsection, function_subsection, local_subsection, label_subsection, type_subsection, table_subsection, memory_subsection, global_subsection, elem_subsection, data_subsection, tag_subsection}
 use Rattle.wasmprinter_hidden.specs.Lengths.{unsigned_len, bytes_len, association_len}
 use Rattle.wasmprinter_hidden.specs.Findings.{finding, if_longer, any_section}
 use Rattle.wasmprinter_hidden.specs.declared.finding.Part.{Part}
@@ -178,7 +178,7 @@ abbrev pub module_name : PlacedModule → Input → Reading
 module_name m at =
     some_or (name.parse at) (stop at)
     (λ x. reading (in_given (is_replaced m module_subsection 0 0 x.0) at.place (bytes_len x.0) x.1.place)
-        (entry_of module_subsection 0 (0, x.0) ∷ []) x.1 false)
+    (entry_of module_subsection 0 (0, x.0) ∷ []) x.1 false)
 
 -- The content of a subsection with a known id.
 abbrev pub content : PlacedModule → ℕ → Input → Reading

@@ -9,5 +9,6 @@ pub mod HiddenOnce
 pub mod Lengths
 pub mod NameCounts
 pub mod NameReadings
+pub mod NamedItems
 pub mod OpenParts
 pub mod Shortest

@@ -11,8 +11,8 @@ use crate::excess::unsigned_len;
 use crate::finding::Part;
 use crate::findings::{Findings, OpenPart};
 use crate::hint_findings::{add_hint_section, gives_no_hints};
-use crate::name_counts::NameCounts;
 use crate::name_findings::add_names;
+use crate::named_items::NamedItems;
 use std::alloc::{AllocError, Global};
 use wasmprinter_custom::is_hint_section;
 use wasmprinter_decoder::{Custom, CustomEntry};
@@ -42,16 +42,16 @@ fn add_name(findings: &mut Findings, section: &Custom<'_>) -> Result<(), AllocEr
 fn add_data(
     alloc: Global,
     findings: &mut Findings,
-    counts: &NameCounts<'_, '_>,
+    named: &NamedItems<'_, '_>,
     later: &[CustomEntry<'_>],
     section: &Custom<'_>,
 ) -> Result<(), AllocError>
-    ensures { OnOk result (findings.new ≡ findings.old ++ in_data counts.now later.now section.now.value) }
+    ensures { OnOk result (findings.new ≡ findings.old ++ in_data named.now later.now section.now.value) }
 {
     if section.is_name_section() {
-        add_names(findings, counts, section.cursor())
+        add_names(findings, named, section.cursor())
     } else if is_hint_section(section.name()) {
-        add_hint_section(alloc, findings, counts.module(), later, section)
+        add_hint_section(alloc, findings, named.module(), later, section)
     } else {
         add_treatment(findings, section)
     }
@@ -85,15 +85,15 @@ fn add_whole(findings: &mut Findings, section: &Custom<'_>) -> Result<(), AllocE
 pub(crate) fn add_custom_section(
     alloc: Global,
     findings: &mut Findings,
-    counts: &NameCounts<'_, '_>,
+    named: &NamedItems<'_, '_>,
     later: &[CustomEntry<'_>],
     section: &Custom<'_>,
 ) -> Result<(), AllocError>
-    ensures { OnOk result (findings.new ≡ findings.old ++ in_custom_section counts.now later.now section.now) }
+    ensures { OnOk result (findings.new ≡ findings.old ++ in_custom_section named.now later.now section.now) }
 {
     if is_empty_custom(alloc, section)? {
         return add_whole(findings, section);
     }
     add_name(findings, section)?;
-    add_data(alloc, findings, counts, later, section)
+    add_data(alloc, findings, named, later, section)
 }

@@ -44,7 +44,7 @@ pub enum Part {
     Name,
     /// A name of something that the module does not have, with its index.
     NameOfNothing,
-    /// A name with its index, if a later name section or subsection gives the item another name.
+    /// A name, with its index if it has one, of an item that has another name: the last one that is given counts.
     ReplacedName,
     /// Bytes of a name section that are not read.
     UnreadNames,

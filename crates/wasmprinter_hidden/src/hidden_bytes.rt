@@ -10,13 +10,14 @@ ghost use Rattle.wasmprinter_decoder.specs.Decoding.{HasDecodingReason};
 ghost use Rattle.wasmprinter_hidden.specs.Hidden.{body_end, in_start_section, in_section, AreHidden};
 ghost use Rattle.wasmprinter_hidden.specs.Extents.{in_custom, customs_after};
 ghost use Rattle.wasmprinter_hidden.specs.HiddenOnce.{FindingsAreUnique, ModulesHaveFindings};
+ghost use Rattle.wasmprinter_hidden.specs.HiddenNames.{NamesAreThoseGiven};
 
 use crate::custom_findings::add_custom_section;
 use crate::excess::unsigned_len;
 use crate::finding::Finding;
 use crate::findings::Findings;
 use crate::function_findings::{add_code_section, add_function_section};
-use crate::name_counts::NameCounts;
+use crate::named_items::NamedItems;
 use crate::section_extents::Extent;
 use crate::section_findings::{add_contents, add_entries, add_size};
 use crate::section_ids::{
@@ -82,12 +83,12 @@ fn add_custom(
     alloc: Global,
     findings: &mut Findings,
     section: Extent,
-    counts: &NameCounts<'_, '_>,
+    named: &NamedItems<'_, '_>,
     customs: &[CustomEntry<'_>],
     before: usize,
 ) -> Result<usize, AllocError>
     ensures { IfOk result (λ count. let left = drop before customs.now in
-        (findings.new ≡ findings.old ++ in_custom counts.now section.id left)
+        (findings.new ≡ findings.old ++ in_custom named.now section.id left)
         × (drop count customs.now ≡ customs_after section.id left)) }
 {
     if section.id != CUSTOM {
@@ -97,7 +98,7 @@ fn add_custom(
         return Ok(before);
     };
     let count = before + 1;
-    add_custom_section(alloc, findings, counts, &customs[count..], &custom.section)?;
+    add_custom_section(alloc, findings, named, &customs[count..], &custom.section)?;
     Ok(count)
 }
 
@@ -114,7 +115,7 @@ fn findings_in_sections(
     ensures { IfOk result (AreHidden wasm.now) }
 {
     let mut findings = Findings::new(alloc);
-    let counts = NameCounts::new(alloc, module)?;
+    let named = NamedItems::new(alloc, module)?;
     let mut custom_count = 0;
     let mut cursor = Cursor::new(PREAMBLE_LEN as u64, &wasm[PREAMBLE_LEN..]);
     // The bytes encode a module: reading fails only where they end.
@@ -124,7 +125,7 @@ fn findings_in_sections(
             alloc,
             &mut findings,
             section,
-            &counts,
+            &named,
             module.customs(),
             custom_count,
         )?;
@@ -134,8 +135,8 @@ fn findings_in_sections(
 
 /// Returns what the text of a module does not show. On `Ok`, the bytes encode a module, and the result lists each part of
 /// it that has more bytes than its shortest encoding ([`lengths_are_shortest`](crate::shortest::lengths_are_shortest)),
-/// each section without entries, and names and branch hints of nothing (`found`). Parts of one section follow each other
-/// in the order of their places, as the sections do.
+/// each section without entries, and names and branch hints that the text does not have (`found`, [`names_are_those_given`]).
+/// Parts of one section follow each other in the order of their places, as the sections do.
 ///
 /// # Errors
 ///
@@ -161,4 +162,10 @@ pub fn hidden(alloc: Global, wasm: &[u8]) -> Result<Vec<Finding>, Error>
 pub fn findings_are_unique()
     ensures unique { FindingsAreUnique }
     ensures exists { ModulesHaveFindings }
+{}
+
+/// States that the findings in a name section are about the names from which the text takes its identifiers: both definitions
+/// read the same entries. Has no code: this is a law over definitions.
+pub fn names_are_those_given()
+    ensures { NamesAreThoseGiven }
 {}

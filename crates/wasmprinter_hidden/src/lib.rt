@@ -19,6 +19,7 @@ mod name_counts;
 mod name_entries;
 mod name_findings;
 mod name_subsections;
+mod named_items;
 mod operator_lengths;
 mod section_extents;
 mod section_findings;
@@ -28,4 +29,4 @@ pub mod shortest;
 mod tests;
 mod type_lengths;
 
-pub use hidden_bytes::{findings_are_unique, hidden};
+pub use hidden_bytes::{findings_are_unique, hidden, names_are_those_given};

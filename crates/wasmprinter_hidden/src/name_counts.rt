@@ -4,14 +4,15 @@ ghost use Rattle.std.specs.Prelude.{◌≡◌, ◌-◌, ◌++◌, ◌≤◌, ◌
 ghost use Rattle.wasmprinter_spec.specs.Types.{all_types};
 ghost use Rattle.wasmprinter_spec.specs.Module.{groups_of};
 ghost use Rattle.wasmprinter_ops.specs.Shapes.{role_view};
+ghost use Rattle.wasmprinter_custom.specs.Spaces.{id_of};
 ghost use Rattle.wasmprinter_hidden.specs.HiddenNames.{item_count, inner_count, field_count, local_count, block_count, opens};
 ghost use Rattle.wasmprinter_hidden.specs.NameCounts.{params_of, declared_in, blocks_in, of_imported, of_defined, function_counts};
+ghost use Rattle.wasmprinter_hidden.specs.NamedItems.{inner_id};
 
-use crate::name_subsections::{
-    DATA, ELEM, FUNCTION, GLOBAL, LABEL, LOCAL, MEMORY, MODULE, TABLE, TAG, TYPE,
-};
+use crate::name_subsections::InnerSpace;
 use std::alloc::{AllocError, Global};
 use std::marker::Model;
+use wasmprinter_custom::Space;
 use wasmprinter_decoder::{Body, BodyParts, ExternKind, ExternType, Fields, Module};
 use wasmprinter_ops::opcode_shapes_arities_and_roles::{Listed, Role};
 
@@ -168,21 +169,20 @@ impl<'m, 'a> NameCounts<'m, 'a> {
         self.module
     }
 
-    /// Returns the number of items that the subsection with this id names, or 0 if it names locals, labels or fields.
-    pub(crate) fn items(&self, subsection: u8) -> u64
-        ensures { result ≡ item_count self.now subsection }
+    /// Returns the number of items of the space, or 0 for locals, labels and fields.
+    pub(crate) fn items(&self, space: Space) -> u64
+        ensures { result ≡ item_count self.now (id_of space) }
     {
-        match subsection {
-            MODULE => 1,
-            FUNCTION => self.functions.len() as u64,
-            TYPE => self.types,
-            TABLE => self.tables,
-            MEMORY => self.memories,
-            GLOBAL => self.globals,
-            ELEM => self.module.elements().len() as u64,
-            DATA => self.module.data_segments().len() as u64,
-            TAG => self.tags,
-            _ => 0,
+        match space {
+            Space::Func => self.functions.len() as u64,
+            Space::Types => self.types,
+            Space::Table => self.tables,
+            Space::Memory => self.memories,
+            Space::Global => self.globals,
+            Space::Elem => self.module.elements().len() as u64,
+            Space::Data => self.module.data_segments().len() as u64,
+            Space::Tag => self.tags,
+            Space::Local | Space::Label | Space::Field => 0,
         }
     }
 
@@ -210,15 +210,14 @@ impl<'m, 'a> NameCounts<'m, 'a> {
         }
     }
 
-    /// Returns the number of locals or labels of a function, or of fields of a type, that the subsection with this id
-    /// names.
-    pub(crate) fn inner_items(&self, subsection: u8, outer: u32) -> u64
-        ensures { result ≡ inner_count self.now subsection outer }
+    /// Returns the number of locals or labels of a function, or of fields of a type.
+    pub(crate) fn inner_items(&self, space: InnerSpace, outer: u32) -> u64
+        ensures { result ≡ inner_count self.now (inner_id space) outer }
     {
-        match subsection {
-            LOCAL => self.function(outer).locals,
-            LABEL => self.function(outer).labels,
-            _ => self.fields(outer),
+        match space {
+            InnerSpace::Local => self.function(outer).locals,
+            InnerSpace::Label => self.function(outer).labels,
+            InnerSpace::Field => self.fields(outer),
         }
     }
 }

@@ -16,7 +16,7 @@ use wasmprinter_bytes::cursor::Cursor;
 #[derive(Drop)]
 pub(crate) struct Association<'a> {
     pub(crate) index: u32,
-    name: &'a str,
+    pub(crate) name: &'a str,
 }
 
 impl<'a> Model for Association<'a> {
@@ -39,10 +39,9 @@ impl<'a> Association<'a> {
 }
 
 impl Shortest for Association<'_> {
-    ghost use Rattle.std.specs.Prelude.{◌+◌};
-    ghost use Rattle.wasmprinter_hidden.specs.Lengths.{unsigned_len, bytes_len};
+    ghost use Rattle.wasmprinter_hidden.specs.Lengths.{association_len};
 
-    ghost len = { λ a. unsigned_len a.0 + bytes_len a.1 };
+    ghost len = { association_len };
 
     fn take_from(&self, excess: &mut Excess) {
         self.index.take_from(excess);
@@ -53,7 +52,7 @@ impl Shortest for Association<'_> {
 /// The name of the module.
 #[derive(Drop)]
 pub(crate) struct ModuleName<'a> {
-    name: &'a str,
+    pub(crate) name: &'a str,
 }
 
 impl<'a> Model for ModuleName<'a> {

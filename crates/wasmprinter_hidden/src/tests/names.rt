@@ -9,7 +9,11 @@ const NAME: &[u8] = b"\x04name";
 
 /// Name sections as the only section of a module, which has nothing but itself to be named. The data starts at 0xf.
 const ALONE: &[Row] = &[
-    ("no data", &[&[0x00, 0x05], NAME], &[]),
+    (
+        "no data",
+        &[&[0x00, 0x05], NAME],
+        &[(0x0a, Part::EmptyCustom, 5)],
+    ),
     (
         "the name of the module",
         &[&[0x00, 0x09], NAME, &[0x00, 0x02, 0x01, 0x6d]],
@@ -73,10 +77,13 @@ const UNREAD: &[Row] = &[
             &[0x00, 0x0f],
             NAME,
             &[0x00, 0x04, 0x01, 0x6d, 0xaa, 0xbb],
-            // 0x15
+            // 0x15: a list without names
             &[0x01, 0x02, 0x80, 0x00],
         ],
-        &[(0x13, Part::UnreadNames, 2), (0x17, Part::NameCount, 1)],
+        &[
+            (0x13, Part::UnreadNames, 2),
+            (0x15, Part::NameSubsection(1), 4),
+        ],
     ),
     (
         "all bytes from a name on that is not UTF-8",
@@ -105,13 +112,17 @@ const UNREAD: &[Row] = &[
         ],
     ),
     (
-        "no bytes after too few names at the end of the section",
+        "missing names at the end of the section, after too few names",
         &[
             &[0x00, 0x0c],
             NAME,
             &[0x01, 0x05, 0x83, 0x00, 0x07, 0x01, 0x66],
         ],
-        &[(0x11, Part::NameCount, 1), (0x13, Part::NameOfNothing, 3)],
+        &[
+            (0x11, Part::NameCount, 1),
+            (0x13, Part::NameOfNothing, 3),
+            (0x16, Part::MissingNames, 0),
+        ],
     ),
     (
         "all bytes after a function without a count of names",
@@ -134,6 +145,111 @@ const UNREAD: &[Row] = &[
         "an id without a size",
         &[&[0x00, 0x0a], NAME, &[0x00, 0x02, 0x01, 0x6d, 0x01]],
         &[(0x13, Part::UnreadNames, 1)],
+    ),
+];
+
+/// Name sections that end before the last name that they count. The data starts at 0xf.
+const MISSING: &[Row] = &[
+    (
+        "no count",
+        &[&[0x00, 0x07], NAME, &[0x01, 0x00]],
+        &[(0x11, Part::MissingNames, 0)],
+    ),
+    (
+        "no name of the module",
+        &[&[0x00, 0x07], NAME, &[0x00, 0x00]],
+        &[(0x11, Part::MissingNames, 0)],
+    ),
+    (
+        "no name after the count, before another name section",
+        &[
+            &[0x00, 0x08],
+            NAME,
+            &[0x01, 0x01, 0x01],
+            // 0x12
+            &[0x00, 0x09],
+            NAME,
+            &[0x00, 0x02, 0x01, 0x6d],
+        ],
+        &[(0x12, Part::MissingNames, 0)],
+    ),
+    (
+        "no function after the count of functions",
+        &[&[0x00, 0x08], NAME, &[0x02, 0x01, 0x01]],
+        &[(0x12, Part::MissingNames, 0)],
+    ),
+    (
+        "no count after a function",
+        &[&[0x00, 0x09], NAME, &[0x02, 0x02, 0x01, 0x00]],
+        &[(0x13, Part::MissingNames, 0)],
+    ),
+    (
+        "no local after the count of locals",
+        &[&[0x00, 0x0a], NAME, &[0x02, 0x03, 0x01, 0x00, 0x01]],
+        &[(0x14, Part::MissingNames, 0)],
+    ),
+    (
+        "a name that is cut off, whose bytes are not read",
+        &[&[0x00, 0x0a], NAME, &[0x01, 0x03, 0x01, 0x00, 0x01]],
+        &[(0x12, Part::UnreadNames, 2)],
+    ),
+    (
+        "an empty name of the module, which is not missing",
+        &[&[0x00, 0x08], NAME, &[0x00, 0x01, 0x00]],
+        &[],
+    ),
+];
+
+/// Subsections that are lists without entries. The data starts at 0xf.
+const EMPTY_LISTS: &[Row] = &[
+    (
+        "each kind of list",
+        &[
+            &[0x00, 0x26],
+            NAME,
+            &[0x01, 0x01, 0x00, 0x02, 0x01, 0x00, 0x03, 0x01, 0x00],
+            // 0x18
+            &[0x04, 0x01, 0x00, 0x05, 0x01, 0x00, 0x06, 0x01, 0x00],
+            // 0x21
+            &[0x07, 0x01, 0x00, 0x08, 0x01, 0x00, 0x09, 0x01, 0x00],
+            // 0x2a
+            &[0x0a, 0x01, 0x00, 0x0b, 0x01, 0x00],
+        ],
+        &[
+            (0x0f, Part::NameSubsection(1), 3),
+            (0x12, Part::NameSubsection(2), 3),
+            (0x15, Part::NameSubsection(3), 3),
+            (0x18, Part::NameSubsection(4), 3),
+            (0x1b, Part::NameSubsection(5), 3),
+            (0x1e, Part::NameSubsection(6), 3),
+            (0x21, Part::NameSubsection(7), 3),
+            (0x24, Part::NameSubsection(8), 3),
+            (0x27, Part::NameSubsection(9), 3),
+            (0x2a, Part::NameSubsection(10), 3),
+            (0x2d, Part::NameSubsection(11), 3),
+        ],
+    ),
+    (
+        "a list with a long size and a long count",
+        &[&[0x00, 0x0b], NAME, &[0x01, 0x83, 0x00, 0x80, 0x80, 0x00]],
+        &[(0x0f, Part::NameSubsection(1), 6)],
+    ),
+    (
+        "lists with bytes after their count, before the name of the module",
+        &[
+            &[0x00, 0x14],
+            NAME,
+            &[0x01, 0x03, 0x00, 0xaa, 0xbb],
+            // 0x14
+            &[0x02, 0x03, 0x80, 0x00, 0x01],
+            // 0x19
+            &[0x00, 0x03, 0x81, 0x00, 0x6d],
+        ],
+        &[
+            (0x0f, Part::NameSubsection(1), 5),
+            (0x14, Part::NameSubsection(2), 5),
+            (0x1b, Part::Name, 1),
+        ],
     ),
 ];
 
@@ -241,6 +357,273 @@ const OF_ITEMS: &[Row] = &[
     ),
 ];
 
+/// Functions and types without names. The data starts at 0x58.
+const WITHOUT_NAMES: &[Row] = &[
+    (
+        "a function without locals, one without labels, and a type without fields",
+        &[
+            ITEMS,
+            &[0x00, 0x14],
+            NAME,
+            &[0x02, 0x03, 0x01, 0x01, 0x00],
+            // 0x5d
+            &[0x03, 0x03, 0x01, 0x01, 0x00],
+            // 0x62
+            &[0x0a, 0x03, 0x01, 0x01, 0x00],
+        ],
+        &[
+            (0x5b, Part::OwnerWithoutNames, 2),
+            (0x60, Part::OwnerWithoutNames, 2),
+            (0x65, Part::OwnerWithoutNames, 2),
+        ],
+    ),
+    (
+        "a long function and a long count",
+        &[
+            ITEMS,
+            &[0x00, 0x0d],
+            NAME,
+            &[0x02, 0x06, 0x01, 0x81, 0x00, 0x80, 0x80, 0x00],
+        ],
+        &[(0x5b, Part::OwnerWithoutNames, 5)],
+    ),
+    (
+        "a function without names between functions with names",
+        &[
+            ITEMS,
+            &[0x00, 0x14],
+            NAME,
+            &[0x02, 0x0d, 0x03],
+            &[0x00, 0x01, 0x00, 0x01, 0x78],
+            // 0x60
+            &[0x01, 0x00],
+            &[0x01, 0x01, 0x00, 0x01, 0x79],
+        ],
+        &[(0x60, Part::OwnerWithoutNames, 2)],
+    ),
+    (
+        "a missing function, without names",
+        &[ITEMS, &[0x00, 0x0a], NAME, &[0x02, 0x03, 0x01, 0x07, 0x00]],
+        &[(0x5b, Part::OwnerWithoutNames, 2)],
+    ),
+];
+
+/// Items that get more than one name. The data of the first name section starts at 0x58.
+const REPLACED: &[Row] = &[
+    (
+        "a function, in the same subsection",
+        &[
+            ITEMS,
+            &[0x00, 0x0e],
+            NAME,
+            &[0x01, 0x07, 0x02, 0x00, 0x01, 0x61, 0x00, 0x01, 0x62],
+        ],
+        &[(0x5b, Part::ReplacedName, 3)],
+    ),
+    (
+        "a function, by a later subsection",
+        &[
+            ITEMS,
+            &[0x00, 0x11],
+            NAME,
+            &[0x01, 0x04, 0x01, 0x01, 0x01, 0x61],
+            &[0x01, 0x04, 0x01, 0x01, 0x01, 0x62],
+        ],
+        &[(0x5b, Part::ReplacedName, 3)],
+    ),
+    (
+        "a function, by a later name section",
+        &[
+            ITEMS,
+            &[0x00, 0x0b],
+            NAME,
+            &[0x01, 0x04, 0x01, 0x00, 0x01, 0x61],
+            &[0x00, 0x0b],
+            NAME,
+            &[0x01, 0x04, 0x01, 0x00, 0x01, 0x62],
+        ],
+        &[(0x5b, Part::ReplacedName, 3)],
+    ),
+    (
+        "no function, since the later name is not read",
+        &[
+            ITEMS,
+            &[0x00, 0x0b],
+            NAME,
+            &[0x01, 0x04, 0x01, 0x00, 0x01, 0x61],
+            // 0x5e: its data starts at 0x65
+            &[0x00, 0x0a],
+            NAME,
+            &[0x01, 0x04, 0x01, 0x00, 0x01],
+        ],
+        &[(0x65, Part::UnreadNames, 5)],
+    ),
+    (
+        "a function, with a long index and an empty name, by a longer name",
+        &[
+            ITEMS,
+            &[0x00, 0x0f],
+            NAME,
+            &[0x01, 0x08, 0x02, 0x80, 0x00, 0x00, 0x00, 0x02, 0x61, 0x62],
+        ],
+        &[(0x5b, Part::ReplacedName, 3)],
+    ),
+    (
+        "a function, with the last name before and after another one",
+        &[
+            ITEMS,
+            &[0x00, 0x11],
+            NAME,
+            &[0x01, 0x0a, 0x03, 0x00, 0x01, 0x61],
+            // 0x5e
+            &[0x00, 0x01, 0x62],
+            &[0x00, 0x01, 0x61],
+        ],
+        &[(0x5e, Part::ReplacedName, 3)],
+    ),
+    (
+        "a function, twice with the same name, the second time with a long index",
+        &[
+            ITEMS,
+            &[0x00, 0x0f],
+            NAME,
+            // 0x5e
+            &[0x01, 0x08, 0x02, 0x00, 0x01, 0x61, 0x80, 0x00, 0x01, 0x61],
+        ],
+        &[(0x5e, Part::Name, 1)],
+    ),
+    (
+        "a missing function",
+        &[
+            ITEMS,
+            &[0x00, 0x0e],
+            NAME,
+            &[0x01, 0x07, 0x02, 0x02, 0x01, 0x61, 0x02, 0x01, 0x62],
+        ],
+        &[
+            (0x5b, Part::NameOfNothing, 3),
+            (0x5e, Part::NameOfNothing, 3),
+        ],
+    ),
+    (
+        "the module",
+        &[
+            ITEMS,
+            &[0x00, 0x0e],
+            NAME,
+            &[0x00, 0x03, 0x81, 0x00, 0x6d],
+            &[0x00, 0x02, 0x01, 0x6e],
+        ],
+        &[(0x5a, Part::ReplacedName, 3)],
+    ),
+    (
+        "the module, by a later name section",
+        &[
+            ITEMS,
+            &[0x00, 0x09],
+            NAME,
+            &[0x00, 0x02, 0x01, 0x6d],
+            &[0x00, 0x09],
+            NAME,
+            &[0x00, 0x02, 0x01, 0x6e],
+        ],
+        &[(0x5a, Part::ReplacedName, 2)],
+    ),
+    (
+        "the module, twice with the same name",
+        &[
+            ITEMS,
+            &[0x00, 0x0d],
+            NAME,
+            &[0x00, 0x02, 0x01, 0x6d],
+            &[0x00, 0x02, 0x01, 0x6d],
+        ],
+        &[],
+    ),
+    (
+        "items of other kinds",
+        &[
+            ITEMS,
+            &[0x00, 0x44],
+            NAME,
+            &[0x04, 0x07, 0x02, 0x00, 0x01, 0x61, 0x00, 0x01, 0x62],
+            // 0x61
+            &[0x05, 0x07, 0x02, 0x00, 0x01, 0x61, 0x00, 0x01, 0x62],
+            // 0x6a
+            &[0x06, 0x07, 0x02, 0x00, 0x01, 0x61, 0x00, 0x01, 0x62],
+            // 0x73
+            &[0x07, 0x07, 0x02, 0x00, 0x01, 0x61, 0x00, 0x01, 0x62],
+            // 0x7c
+            &[0x08, 0x07, 0x02, 0x00, 0x01, 0x61, 0x00, 0x01, 0x62],
+            // 0x85
+            &[0x09, 0x07, 0x02, 0x00, 0x01, 0x61, 0x00, 0x01, 0x62],
+            // 0x8e
+            &[0x0b, 0x07, 0x02, 0x00, 0x01, 0x61, 0x00, 0x01, 0x62],
+        ],
+        &[
+            (0x5b, Part::ReplacedName, 3),
+            (0x64, Part::ReplacedName, 3),
+            (0x6d, Part::ReplacedName, 3),
+            (0x76, Part::ReplacedName, 3),
+            (0x7f, Part::ReplacedName, 3),
+            (0x88, Part::ReplacedName, 3),
+            (0x91, Part::ReplacedName, 3),
+        ],
+    ),
+    (
+        "a local, a label and a field",
+        &[
+            ITEMS,
+            &[0x00, 0x26],
+            NAME,
+            &[
+                0x02, 0x09, 0x01, 0x01, 0x02, 0x02, 0x01, 0x78, 0x02, 0x01, 0x79,
+            ],
+            // 0x63
+            &[
+                0x03, 0x09, 0x01, 0x01, 0x02, 0x01, 0x01, 0x78, 0x01, 0x01, 0x79,
+            ],
+            // 0x6e
+            &[
+                0x0a, 0x09, 0x01, 0x01, 0x02, 0x01, 0x01, 0x78, 0x01, 0x01, 0x79,
+            ],
+        ],
+        &[
+            (0x5d, Part::ReplacedName, 3),
+            (0x68, Part::ReplacedName, 3),
+            (0x73, Part::ReplacedName, 3),
+        ],
+    ),
+    (
+        "a local, by a second list for the same function",
+        &[
+            ITEMS,
+            &[0x00, 0x12],
+            NAME,
+            &[0x02, 0x0b, 0x02],
+            &[0x01, 0x01, 0x00, 0x01, 0x78],
+            &[0x01, 0x01, 0x00, 0x01, 0x79],
+        ],
+        &[(0x5d, Part::ReplacedName, 3)],
+    ),
+    (
+        "no item: a local of each function, a label, a field, a function and a type",
+        &[
+            ITEMS,
+            &[0x00, 0x2e],
+            NAME,
+            &[0x02, 0x0b, 0x02],
+            &[0x00, 0x01, 0x00, 0x01, 0x78],
+            &[0x01, 0x01, 0x00, 0x01, 0x79],
+            &[0x03, 0x06, 0x01, 0x01, 0x01, 0x00, 0x01, 0x7a],
+            &[0x0a, 0x06, 0x01, 0x01, 0x01, 0x00, 0x01, 0x77],
+            &[0x01, 0x04, 0x01, 0x00, 0x01, 0x66],
+            &[0x04, 0x04, 0x01, 0x00, 0x01, 0x74],
+        ],
+        &[],
+    ),
+];
+
 /// Name sections elsewhere, names of imported items and of types in groups, and labels of blocks of each kind.
 const OTHERS: &[Row] = &[
     (
@@ -260,6 +643,7 @@ const OTHERS: &[Row] = &[
         &[
             &[0x00, 0x08],
             NAME,
+            // 0x0f: a list without names
             &[0x01, 0x01, 0x00],
             // 0x12
             &[0x00, 0x0b],
@@ -270,7 +654,10 @@ const OTHERS: &[Row] = &[
             NAME,
             &[0x01, 0x03, 0x01, 0x00, 0x00],
         ],
-        &[(0x29, Part::NameOfNothing, 2)],
+        &[
+            (0x0f, Part::NameSubsection(1), 3),
+            (0x29, Part::NameOfNothing, 2),
+        ],
     ),
     (
         "a table, a memory, a global and a tag that are imported",
@@ -336,6 +723,24 @@ fn finds_long_numbers_before_names(rt: HostRuntime) -> Result<(), Fail> {
 #[test]
 fn finds_unread_names(rt: HostRuntime) -> Result<(), Fail> {
     let other = first_other_row(rt.alloc(), UNREAD)?;
+    assert!(rt; other == None, "{other:?}");
+    let other = first_other_row(rt.alloc(), MISSING)?;
+    assert!(rt; other == None, "{other:?}");
+    Ok(())
+}
+
+#[test]
+fn finds_lists_without_names(rt: HostRuntime) -> Result<(), Fail> {
+    let other = first_other_row(rt.alloc(), EMPTY_LISTS)?;
+    assert!(rt; other == None, "{other:?}");
+    let other = first_other_row(rt.alloc(), WITHOUT_NAMES)?;
+    assert!(rt; other == None, "{other:?}");
+    Ok(())
+}
+
+#[test]
+fn finds_replaced_names(rt: HostRuntime) -> Result<(), Fail> {
+    let other = first_other_row(rt.alloc(), REPLACED)?;
     assert!(rt; other == None, "{other:?}");
     Ok(())
 }

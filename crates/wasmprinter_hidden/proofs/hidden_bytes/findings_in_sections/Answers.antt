@@ -17,7 +17,7 @@ pub loop-section-preserved : goal.loop-section-preserved
 loop-section-preserved c =
     let m = c.args.module.now in
     let x = c.in-Ok.section in
-    let named = rw (c.customs.ensures, c.in_ok-counts.ensures) at c.in_ok-custom_count.ensures in
+    let named = rw (c.customs.ensures, c.in_ok-named.ensures) at c.in_ok-custom_count.ensures in
     sections_more c.args.wasm.now m c.loop-section.cursor c.read.new.cursor (drop c.loop-section.custom_count m.customs) (drop c.in_ok-custom_count.custom_count m.customs)
     c.loop-section.findings c.add_section.new.findings c.add_custom.new.findings x c.in-Ok.ensures.reads.reads c.in_ok-add_section.ensures named.0 named.1 c.loop-section.invariant
 
