@@ -4,7 +4,7 @@
 -- given twice, how names, fields and symbols are divided into lists, and the places of sections that are not printed as such.
 use Rattle.std.specs.Prelude.{◌≡◌, ℕ, ◌+◌, ◌-◌, List, [], ◌∷◌, ◌++◌, length, map, drop, ◌==◌, Bool, false, if◌then◌else◌, codes, bytes_eq, Option, Some, None}
 use Rattle.wasmprinter_spec.specs.Grammar.{Input, input, Spans, Placed}
-use Rattle.wasmprinter_spec.specs.Placed.{PlacedModule, PlacedFunction, Body, Custom, CustomEntry}
+use Rattle.wasmprinter_spec.specs.Placed.{PlacedModule, PlacedFunction, LocalEntry, Body, Custom, CustomEntry}
 use Rattle.wasmprinter_spec.specs.Binary.{Spells, preamble_bytes}
 use Rattle.wasmprinter_spec.specs.Sections.{kind_of, Kind, CustomSection, TypeSection, ImportSection, FunctionSection, TableSection, MemorySection, TagSection, GlobalSection, ExportSection, StartSection, ElementSection, DataCountSection, CodeSection, DataSection}
 use Rattle.wasmprinter_spec.specs.Customs.{name_section, custom_treatment_of}
@@ -70,10 +70,14 @@ body_end f = f.body.value.end + 1
 abbrev pub body_size : PlacedFunction → ℕ
 body_size f = body_end f - f.body.place
 
+-- The number of bytes of the shortest encoding of a group of locals. A text shows nothing of a group without locals.
+abbrev pub shown_group_len : LocalEntry → ℕ
+shown_group_len e = if e.count == 0 then 0 else local_entry_len e
+
 -- The findings in a body: in the groups of its locals, and in its operators.
 abbrev pub in_body : Placed Body → List Finding
 in_body b =
-    in_list LocalCount LocalGroup local_entry_len b.value.locals b.place (first_place b.value.operators b.value.end)
+    in_list LocalCount LocalGroup shown_group_len b.value.locals b.place (first_place b.value.operators b.value.end)
     ++ in_items Instruction operator_len b.value.operators b.value.end
 
 -- The findings in bodies that follow each other from this place on, each after its size.

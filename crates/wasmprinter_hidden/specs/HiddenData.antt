@@ -3,7 +3,7 @@
 use Rattle.std.specs.Prelude.{ℕ, ◌+◌, List, [], length, Bool, true, ◌==◌, not}
 use Rattle.std.specs.List.{filter}
 use Rattle.wasmprinter_spec.specs.Grammar.{Placed}
-use Rattle.wasmprinter_spec.specs.Customs.{CustomTreatment, ProducersFields, DylinkSubsections}
+use Rattle.wasmprinter_spec.specs.Customs.{CustomTreatment, ProducersFields, DylinkSubsections, Refused}
 use Rattle.wasmprinter_spec.specs.Customs.Producers.{Field}
 use Rattle.wasmprinter_spec.specs.Customs.Dylink.{Subsection, SubsectionContent, Exports, Imports}
 use Rattle.wasmprinter_hidden.specs.Lengths.{list_len, items_len, field_len, dylink_subsection_len}
@@ -37,8 +37,10 @@ producers_len fields = list_len field_len (filter has_values fields)
 abbrev pub dylink_len : List Subsection → ℕ
 dylink_len ss = items_len (λ s. dylink_subsection_len s.value) (filter (λ s. has_lines s.value) ss)
 
--- The findings in the data of a custom section, by its treatment. Bytes that the text repeats have none.
+-- The findings in the data of a custom section, by its treatment. Bytes that the text repeats have none. No text shows the
+-- data of a refused section.
 abbrev pub in_treatment : Placed (List ℕ) → CustomTreatment → List Finding
 in_treatment d (ProducersFields fields) = in_bytes d (producers_len fields)
 in_treatment d (DylinkSubsections ss) = in_bytes d (dylink_len ss)
+in_treatment d (Refused id) = in_bytes d 0
 in_treatment d treatment = []

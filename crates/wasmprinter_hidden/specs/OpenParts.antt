@@ -3,9 +3,9 @@ use Rattle.std.specs.Prelude.{◌≡◌, ℕ, ◌<◌, ◌-◌, ◌^◌, List, �
 use Rattle.wasmprinter_spec.specs.Grammar.{Placed}
 use Rattle.wasmprinter_spec.specs.Operator.{Operator}
 use Rattle.wasmprinter_spec.specs.Placed.{LocalEntry}
-use Rattle.wasmprinter_hidden.specs.Lengths.{local_entry_len, operator_len}
+use Rattle.wasmprinter_hidden.specs.Lengths.{operator_len}
 use Rattle.wasmprinter_hidden.specs.Findings.{if_longer}
-use Rattle.wasmprinter_hidden.specs.Hidden.{first_place, in_items}
+use Rattle.wasmprinter_hidden.specs.Hidden.{first_place, in_items, shown_group_len}
 use Rattle.wasmprinter_hidden.specs.declared.finding.Part.{Part}
 use Rattle.wasmprinter_hidden.specs.declared.finding.Finding.{Finding}
 use Rattle.wasmprinter_hidden.specs.declared.findings.OpenPart.{OpenPart}
@@ -24,7 +24,7 @@ lengths place len xs = map (λ x. record { place = place x; value = len x }) xs
 
 -- The places and lengths of groups of locals.
 abbrev pub lengths_of_groups : List (Placed LocalEntry) → List (Placed ℕ)
-lengths_of_groups es = lengths (λ e. e.place) (λ e. local_entry_len e.value) es
+lengths_of_groups es = lengths (λ e. e.place) (λ e. shown_group_len e.value) es
 
 -- The places and lengths of operators.
 abbrev pub lengths_of_operators : List (Placed Operator) → List (Placed ℕ)

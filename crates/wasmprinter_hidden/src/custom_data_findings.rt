@@ -24,6 +24,18 @@ pub(crate) fn add_longer_data<T: Shortest>(
     findings.close(data, section.cursor().end())
 }
 
+/// Appends the finding that no text shows the data of a section.
+fn add_all_data(findings: &mut Findings, section: &Custom<'_>) -> Result<(), AllocError>
+    ensures { OnOk result (findings.new ≡ findings.old ++ in_bytes section.now.value.bytes 0) }
+{
+    let data = OpenPart {
+        part: Part::CustomData,
+        place: section.bytes_place(),
+        len: 0,
+    };
+    findings.close(data, section.cursor().end())
+}
+
 /// Returns the treatment of a section in the text.
 fn treatment_of<'a>(section: &Custom<'a>) -> CustomTreatment<'a>
     ensures { treatment_view result ≡ custom_treatment_of section.now.value }
@@ -33,7 +45,8 @@ fn treatment_of<'a>(section: &Custom<'a>) -> CustomTreatment<'a>
     custom_treatment(section.name(), data.place(), data.rest())
 }
 
-/// Appends the finding in the data of a section by its treatment. Bytes that the text repeats have none.
+/// Appends the finding in the data of a section by its treatment. Bytes that the text repeats have none, and no text shows
+/// those of a refused section.
 pub(crate) fn add_treatment(findings: &mut Findings, section: &Custom<'_>) -> Result<(), AllocError>
     ensures { OnOk result (findings.new ≡ findings.old
         ++ in_treatment section.now.value.bytes (custom_treatment_of section.now.value)) }
@@ -41,9 +54,7 @@ pub(crate) fn add_treatment(findings: &mut Findings, section: &Custom<'_>) -> Re
     match &treatment_of(section) {
         CustomTreatment::Producers(fields) => add_longer_data(findings, section, fields),
         CustomTreatment::Dylink(subsections) => add_longer_data(findings, section, subsections),
-        CustomTreatment::Silent
-        | CustomTreatment::Refused(_)
-        | CustomTreatment::Raw
-        | CustomTreatment::Malformed => Ok(()),
+        CustomTreatment::Refused(_) => add_all_data(findings, section),
+        CustomTreatment::Silent | CustomTreatment::Raw | CustomTreatment::Malformed => Ok(()),
     }
 }

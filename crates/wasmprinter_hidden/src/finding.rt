@@ -20,13 +20,13 @@ pub enum Part {
     EmptyCustom,
     /// The data of a custom section with text of its own (`producers`, `dylink.0`), or of the section with branch hints that
     /// counts. It is compared with the shortest encoding of its fields with values, its subsections with lines in the text,
-    /// or its functions with hints.
+    /// or its functions with hints; if `dylink.0` can't be printed, with no bytes.
     CustomData,
     /// The number that encodes the size of a body.
     BodySize,
     /// The number that encodes how many groups of locals a body has.
     LocalCount,
-    /// A group of locals.
+    /// A group of locals. One without locals needs no bytes.
     LocalGroup,
     /// An instruction.
     Instruction,
@@ -48,7 +48,7 @@ pub enum Part {
     ReplacedName,
     /// Bytes of a name section that are not read.
     UnreadNames,
-    /// The end of a name section that ends before the last name that it counts.
+    /// The end of a name section at which a name, or a count of names, is missing.
     MissingNames,
     /// A branch hint that no instruction takes. Hints are taken in order: one that is not taken blocks the later ones.
     Hint,

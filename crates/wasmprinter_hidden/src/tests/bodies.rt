@@ -93,10 +93,23 @@ const LOCALS: &[Row] = &[
             &[0x1a, 0x0b],
         ],
         &[
-            (0x13, Part::LocalGroup, 1),
+            (0x13, Part::LocalGroup, 3),
             (0x16, Part::LocalGroup, 1),
             (0x19, Part::Instruction, 1),
         ],
+    ),
+    (
+        "groups without locals, one of a type that the module does not have",
+        &[
+            FUNCTION,
+            &[0x0a, 0x0a, 0x01, 0x08, 0x02],
+            // 0x11
+            &[0x00, 0x7e],
+            // 0x13
+            &[0x00, 0x64, 0xef, 0x00],
+            &[0x0b],
+        ],
+        &[(0x11, Part::LocalGroup, 2), (0x13, Part::LocalGroup, 4)],
     ),
     (
         "instructions before the end of a body, and a body after it",

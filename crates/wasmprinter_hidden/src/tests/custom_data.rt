@@ -173,7 +173,7 @@ const LONG_SUBSECTIONS: &[Row] = &[
     ),
 ];
 
-/// Sections with the name `dylink.0` without lines in the text: it is refused, or the text repeats the bytes.
+/// Sections with the name `dylink.0` without lines in the text: no text shows them, or the text repeats the bytes.
 const OTHER_SUBSECTIONS: &[Row] = &[
     (
         "an unknown subsection, after an empty list of exports",
@@ -182,7 +182,7 @@ const OTHER_SUBSECTIONS: &[Row] = &[
             DYLINK,
             &[0x03, 0x01, 0x00, 0x06, 0x81, 0x00, 0x00],
         ],
-        &[],
+        &[(0x13, Part::CustomData, 7)],
     ),
     (
         "a byte after an empty list of exports",
