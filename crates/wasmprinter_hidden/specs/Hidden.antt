@@ -1,7 +1,9 @@
 -- What the text of a module does not show: bytes that a shorter encoding of the same module does not have, sections without
--- entries, names of nothing, names that are replaced, and hints that no operator takes. Each part is compared by itself. These
--- are not among it: how locals are grouped, and the data count; of custom sections, the order of names, equal names that are
--- given twice, how names, fields and symbols are divided into lists, and the places of sections that are not printed as such.
+-- entries, names of nothing, names that are replaced, and hints that no operator takes. Parts are compared one by one, and the
+-- data of `producers`, `dylink.0` and branch hints as a whole. These are not among it: how locals are grouped, and the data
+-- count; of custom sections, the order of names, equal names that an item is given more than once, how names, fields and symbols
+-- are divided into lists and sections, the places of sections that are not printed as such, the number of missing names, and the
+-- function or type of names of nothing and of unused hints.
 use Rattle.std.specs.Prelude.{◌≡◌, ℕ, ◌+◌, ◌-◌, List, [], ◌∷◌, ◌++◌, length, map, drop, ◌==◌, Bool, false, if◌then◌else◌, codes, bytes_eq, Option, Some, None}
 use Rattle.wasmprinter_spec.specs.Grammar.{Input, input, Spans, Placed}
 use Rattle.wasmprinter_spec.specs.Placed.{PlacedModule, PlacedFunction, LocalEntry, Body, Custom, CustomEntry}
@@ -149,7 +151,7 @@ in_data m later c =
     else if bytes_eq c.name (codes "metadata.code.branch_hint") then in_hints m later c.bytes
     else in_treatment c.bytes (custom_treatment_of c)
 
--- The section is a name section without data, or a section with branch hints that gives no hints.
+-- The section is a name section without data, or a section with branch hints without data or whose entries have no hints.
 abbrev pub is_empty_custom : Custom → Bool
 is_empty_custom c =
     if bytes_eq c.name name_section then is_empty c.bytes.value
