@@ -1,7 +1,7 @@
 -- The excerpt of a module's text.
-use Rattle.std.specs.Prelude.{◌≡◌, ◌↔◌, ℕ, ◌+◌, ◌-◌, ◌<◌, ◌^◌, List, [], false, Option, Some, None, Result, Ok, Err, IfSome, IsErrOf, length, slice_get}
+use Rattle.std.specs.Prelude.{◌≡◌, ◌↔◌, ℕ, ◌+◌, ◌-◌, ◌<◌, ◌^◌, List, [], false, Option, Some, None, Result, Ok, Err, IfSome, IsErrOf, IsSome, is_some, length, slice_get}
 use Rattle.std.specs.Borrow.{Bor}
-use Rattle.std.proofs.Common.{refl, sym, ◌∙◌, subst, arith, inl, inr}
+use Rattle.std.proofs.Common.{refl, sym, ap, ◌∙◌, subst, arith, inl, inr}
 use Rattle.std.proofs.Math.Nat.{min-eq_left, min-eq_right, le_of_lt}
 use Rattle.std.proofs.lemmas.Bool.{cases_lt}
 use Rattle.std.proofs.lemmas.List.{length-map}
@@ -11,20 +11,21 @@ use Rattle.wasmprinter_bytes.specs.declared.library_error.Error.TheVariants.{Com
 use Rattle.wasmprinter_spec.specs.Binary.{Spells, IsComponent}
 use Rattle.wasmprinter_spec.specs.Layout.{layout, module_pieces, module_pieces_with, module_pieces_of, module_parts}
 use Rattle.wasmprinter_spec.specs.Layout.Customs.{Laid, laid_parts}
-use Rattle.wasmprinter_spec.specs.Lines.{TextLine, lines_of, line_places}
+use Rattle.wasmprinter_spec.specs.Lines.{TextLine, lines_of, line_places, line_from}
 use Rattle.wasmprinter_spec.specs.ModuleNames.{module_names}
 use Rattle.wasmprinter_spec.specs.Names.{Names}
 use Rattle.wasmprinter_spec.specs.Options.{Options, Answers, with_color}
 use Rattle.wasmprinter_spec.specs.Piece.{Piece, all_calls}
-use Rattle.wasmprinter_spec.specs.Placed.{PlacedModule}
+use Rattle.wasmprinter_spec.specs.Placed.{PlacedFunction, PlacedModule}
 use Rattle.wasmprinter.specs.Found.{text_lines}
 use Rattle.wasmprinter.specs.Lined.{HasLinesBy}
 use Rattle.wasmprinter.specs.Printed.{no_claims}
 use Rattle.wasmprinter.specs.TextOfFile.{AreRefused}
 use Rattle.wasmprinter.proofs.Named.{same_module}
 use Rattle.wasm2text.specs.declared.target.Target.{Target}
-use Rattle.wasm2text.specs.Excerpt.{StartsAtZero, ShowsByte, IsHeader, IsExcerptIn, IsExcerptOfLines, IsExcerptOf, IsTargetAt, HasOffset, saturated, excerpt_text}
-use Rattle.wasm2text.proofs.Headers.{line_within}
+use Rattle.wasm2text.specs.Excerpt.{StartsAtZero, ShowsByte, IsPlaceOfBody, IsHeader, IsExcerptIn, IsExcerptOfLines, IsExcerptOf, IsTargetAt, HasOffset, saturated, excerpt_text}
+use Rattle.wasm2text.proofs.FunctionShown.{body_has_line}
+use Rattle.wasm2text.proofs.Headers.{line_within, line_found}
 
 -- The first line of a module has the place 0.
 first_place : (o : Options) (names : Names) (size : ℕ) (ps : List Piece) (r : Option ℕ) →
@@ -65,6 +66,18 @@ excerpt_of_collected wasm m lines given offset index header text spells all show
     subst (λ (ls : List TextLine). IsExcerptOfLines wasm ls offset text) all
     (m, spells, record { index = index; shows = shows; header = header; is_header = is_header; is = is })
 
+-- A byte in a body has a header.
+pub has_header : (o : Options) (wasm old storage : List ℕ) (lines : List TextLine) (given : HasLinesBy o wasm old storage lines) (offset : ℕ) (header : Option ℕ) →
+    IsHeader given.printed.decoded.placed lines offset header →
+    (number place : ℕ) → IsPlaceOfBody given.printed.decoded.placed.functions offset number place → IsSome header
+has_header o wasm old storage lines given offset header (inl is) number place within =
+    let f : PlacedFunction = is.2.0 in
+    let same : header ≡ line_from 0 f.body.place lines = is.3 ∙ ap (λ (p : ℕ). line_from 0 p lines) is.2.3 in
+    ap (λ (h : Option ℕ). is_some h) same
+    ∙ line_found lines 0 f.body.place
+    ∙ body_has_line o wasm old storage lines f is.0 given is.2.1
+has_header o wasm old storage lines given offset header (inr none) number place within = absurd (none.0 number place within)
+
 -- An offset is exact if it is below the greatest number of 64 bits.
 exact : (offset number : ℕ) → number ≡ saturated offset → number < 2 ^ 64 - 1 → offset ≡ number
 exact offset number e lt =
@@ -79,6 +92,8 @@ pub excerpt_of_text : (o : Options) (wasm old storage : List ℕ) (lines : List 
     IsExcerptOfLines wasm lines offset text → IsExcerptOf o wasm target text
 excerpt_of_text o wasm old storage lines target offset text e has found lt small is =
     let given : HasLinesBy o wasm [] storage lines = subst (λ (t : List ℕ). HasLinesBy o wasm t storage lines) e has in
+    let excerpt : IsExcerptIn given.printed.decoded.placed lines offset text =
+    subst (λ (m : PlacedModule). IsExcerptIn m lines offset text) (sym (same_module given.printed.decoded is.0 is.1)) is.2 in
     record {
       whole = storage;
       lines = lines;
@@ -86,7 +101,8 @@ excerpt_of_text o wasm old storage lines target offset text e has found lt small
       offset = offset;
       is_at = subst (IsTargetAt target wasm) (exact found.0 offset found.2 (omega (arith, lt, small))) found.1;
       inside = lt;
-      excerpt = subst (λ (m : PlacedModule). IsExcerptIn m lines offset text) (sym (same_module given.printed.decoded is.0 is.1)) is.2;
+      excerpt = excerpt;
+      headed = has_header o wasm [] storage lines given offset excerpt.header excerpt.is_header;
     }
 
 no_error : {T : Type 0} (x : T) (e : Error) → ◌≡◌ {A = Result T Error} (Ok x) (Err e) → ⊥

@@ -1,12 +1,14 @@
 -- The header of the function to whose body a byte belongs.
-use Rattle.std.specs.Prelude.{◌≡◌, ℕ, ◌+◌, ◌<◌, ◌≤◌, List, [], ◌∷◌, Option, Some, None, Bool, true, false, cond, length, slice_get}
-use Rattle.std.proofs.Common.{refl, sym, ap, ◌∙◌, subst, zero, suc, arith, inr}
+use Rattle.std.specs.Prelude.{◌≡◌, ℕ, ◌+◌, ◌<◌, ◌≤◌, List, [], ◌∷◌, Option, Some, None, is_some, Bool, true, false, nat_le, ◌==◌, ◌||◌, cond, length, slice_get}
+use Rattle.std.proofs.Common.{refl, sym, ap, ◌∙◌, subst, zero, suc, arith, inl, inr}
+use Rattle.std.proofs.lemmas.Bool.{cases_order, eq-eqb, ne_eqb, le-leb, lt-leb, and_from, and_left, and_right}
 use Rattle.std.proofs.lemmas.Option.{slice_get_within}
 use Rattle.wasmprinter_spec.specs.Grammar.{Placed}
 use Rattle.wasmprinter_spec.specs.Placed.{Body, PlacedFunction, PlacedModule}
 use Rattle.wasmprinter_spec.specs.Lines.{TextLine, has_place, line_from}
 use Rattle.wasmprinter_decoder.specs.Modules.{body_at}
 use Rattle.wasm2text.specs.Excerpt.{IsInBody, IsPlaceOfBody, IsOutside, IsHeader}
+use Rattle.wasm2text.specs.FunctionText.{only_place, is_in, any_in}
 
 -- The function that has the body with this number.
 abbrev HasBody : List PlacedFunction → ℕ → Placed Body → Type 0
@@ -64,3 +66,27 @@ pub line_within : (lines : List TextLine) (n place h : ℕ) → line_from n plac
 line_within [] n place h e = absurd (let both : ◌≡◌ {A = Option ℕ} None (Some h) = e in cc)
 line_within (line ∷ lines) n place h e =
     either_within (has_place place line.0) (line_from (n + 1) place lines) n h (length lines) e (λ f. line_within lines (n + 1) place h f)
+
+-- ---- A line that exists
+
+-- A line has a place if the place is in the range of this place alone.
+place_in_range : (place : ℕ) (line : Option ℕ) → has_place place line ≡ is_in (only_place place) line
+place_in_range place None = refl
+place_in_range place (Some p) =
+    elim (cases_order p place) [
+      | inl e ↦ eq-eqb p place e ∙ sym (and_from (nat_le place p) (nat_le p place) (le-leb place p (omega (arith, e))) (le-leb p place (omega (arith, e))))
+      | inr (inl lt) ↦ ne_eqb p place (λ e. absurd (omega (arith, lt, e))) ∙ sym (and_left (nat_le place p) (nat_le p place) (lt-leb place p lt))
+      | inr (inr gt) ↦ ne_eqb p place (λ e. absurd (omega (arith, gt, e))) ∙ sym (and_right (nat_le place p) (nat_le p place) (lt-leb p place gt))
+    ]
+
+some_by_test : (t : Bool) (n : ℕ) (rest : Option ℕ) → is_some (cond t (Some n) rest) ≡ (t || is_some rest)
+some_by_test true n rest = refl
+some_by_test false n rest = refl
+
+-- A line is found if and only if one of the lines has the place.
+pub line_found : (lines : List TextLine) (n place : ℕ) → is_some (line_from n place lines) ≡ any_in (only_place place) lines
+line_found [] n place = refl
+line_found (line ∷ lines) n place =
+    some_by_test (has_place place line.0) n (line_from (n + 1) place lines)
+    ∙ ap (λ (b : Bool). has_place place line.0 || b) (line_found lines (n + 1) place)
+    ∙ ap (λ (b : Bool). b || any_in (only_place place) lines) (place_in_range place line.0)

@@ -1,6 +1,6 @@
 -- The excerpt of a text that shows a byte of the module: the line that shows the byte, the lines around it, and the
 -- header of the byte's function.
-use Rattle.std.specs.Prelude.{◌≡◌, ℕ, ◌+◌, ◌-◌, ◌<◌, ◌≤◌, ◌^◌, ◌⊎◌, List, [], ◌∷◌, ◌++◌, Bool, nat_lt, nat_le, ◌==◌, ◌&&◌, ◌||◌, if◌then◌else◌, Option, Some, None, slice_get, slice_range, length, min, codes, decimal}
+use Rattle.std.specs.Prelude.{◌≡◌, ℕ, ◌+◌, ◌-◌, ◌<◌, ◌≤◌, ◌^◌, ◌⊎◌, List, [], ◌∷◌, ◌++◌, Bool, nat_lt, nat_le, ◌==◌, ◌&&◌, ◌||◌, if◌then◌else◌, Option, Some, None, IsSome, slice_get, slice_range, length, min, codes, decimal}
 use Rattle.std.specs.List.{repeat}
 use Rattle.wasmprinter_spec.specs.Grammar.{Placed}
 use Rattle.wasmprinter_spec.specs.Placed.{Body, PlacedFunction, PlacedModule}
@@ -160,6 +160,8 @@ pub record IsExcerptOf (o : Options) (wasm : List ℕ) (target : Target) (text :
   pub is_at : IsTargetAt target wasm offset
   pub inside : offset < length wasm
   pub excerpt : IsExcerptIn given.printed.decoded.placed lines offset text
+  -- A byte in a body has a header.
+  pub headed : (number place : ℕ) → IsPlaceOfBody given.printed.decoded.placed.functions offset number place → IsSome excerpt.header
 
 -- The bytes encode a module that can be printed with these options, and they are `len` bytes, so that the byte is not one
 -- of them. `number` is its offset, as a number of 64 bits.
