@@ -312,6 +312,7 @@ case_of 0 --hidden padded.wasm
 case_of 0 --at 0 -p -f --color=always padded.wasm --hidden
 input_case 0 padded.wasm --hidden
 echo 'wasm2text: cut.wasm: malformed module at byte 0x0' >err
+{ echo '0x13: data of a custom section, extra bytes: 2' && cat padded.lines; } >out
 case_of 1 --hidden cut.wasm late.wasm padded.wasm
 : >out
 : >err

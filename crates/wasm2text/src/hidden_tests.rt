@@ -99,7 +99,12 @@ wasm2text: component.wasm: components are not supported
 wasm2text: none.wasm: no such file or directory
 ",
     ),
-    (&["--hidden", "late.wasm"], 0, "", ""),
+    (
+        &["--hidden", "late.wasm"],
+        0,
+        "0x13: data of a custom section, extra bytes: 2\n",
+        "",
+    ),
     (
         &["--hidden=yes", "padded.wasm"],
         2,

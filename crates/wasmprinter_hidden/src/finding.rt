@@ -50,7 +50,8 @@ pub enum Part {
     UnreadNames,
     /// The end of a name section at which a name, or a count of names, is missing.
     MissingNames,
-    /// A branch hint that no instruction takes. Hints are taken in order: one that is not taken blocks the later ones.
+    /// A branch hint that no instruction takes. Hints are taken in order: one that is not taken blocks the later ones of
+    /// its function.
     Hint,
     /// The data of a section with branch hints that is malformed, or that a later section with branch hints replaces.
     HintSection,
