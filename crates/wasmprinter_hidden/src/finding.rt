@@ -50,8 +50,7 @@ pub enum Part {
     UnreadNames,
     /// The end of a name section at which a name, or a count of names, is missing.
     MissingNames,
-    /// A branch hint that no instruction takes. Hints are taken in order: one that is not taken blocks the later ones of
-    /// its function.
+    /// A branch hint that no instruction takes. Hints are taken in order: one that is not taken blocks the later ones.
     Hint,
     /// The data of a section with branch hints that is malformed, or that a later section with branch hints replaces.
     HintSection,
